@@ -1,0 +1,4 @@
+pub mod Values
+pub mod Layouts
+pub mod FloatOrder
+pub mod FloatMeaning
