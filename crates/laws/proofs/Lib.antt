@@ -1,3 +1,4 @@
 pub mod Choices
 pub mod Folds
+pub mod Reading
 pub mod Sorting
