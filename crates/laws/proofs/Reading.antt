@@ -3,9 +3,9 @@ use mathlib.Core.Path.{_≡_, refl, sym, ap, ap₂, _∙_}
 use mathlib.Core.List.{List, [], _∷_, _++_}
 use Prim.Native.Nat.{ℕ, zero, suc, _+_, _-_, _≤_, _<_}
 use native.Mathlib.Omega.{arith}
-use native.Mathlib.Numerals.{add-one}
+use native.Mathlib.Numerals.{add-one, add-two}
 use lib.ListN.{length, getD, set, take, drop, replicate, length-take, length-drop}
-use lib.Seq.{sets, getD-set-same, getD-set-other, drop-cons}
+use lib.Seq.{sets, getD-set-same, getD-set-other, drop-cons, take-length}
 use Rattle.laws.specs.Lists.{at, readN}
 
 pub length-read : (ws : List ℕ) (o n : ℕ) → length (readN ws o n) ≡ n
@@ -83,3 +83,18 @@ read-snoc ws o n = rw add-one (read-more ws o n)
 pub sets-snoc : (vs ws : List ℕ) (i x : ℕ) → sets ws i (vs ++ (x ∷ [])) ≡ set (sets ws i vs) (i + length vs) x
 sets-snoc [] ws i x = let e : i + 0 ≡ i = omega arith in rw e
 sets-snoc (v ∷ vs) ws i x = let e : i + suc (length vs) ≡ suc i + length vs = omega arith in rw e (sets-snoc vs (set ws i v) (suc i) x)
+
+-- a whole list, read from its start
+pub read-whole : (l : List ℕ) → readN l 0 (length l) ≡ l
+read-whole l = read-take l 0 (length l) (omega arith) ∙ take-length l
+
+-- numbers written one by one before a copy
+pub sets-two : (l m : List ℕ) (i x y : ℕ) (vs : List ℕ) → m ≡ sets (set (set l i x) (i + 1) y) (i + 2) vs → m ≡ sets l i (x ∷ y ∷ vs)
+sets-two l m i x y vs e = rw (add-one, add-two) at e
+
+pub sets-three : (l m : List ℕ) (i x y z : ℕ) (vs : List ℕ) → m ≡ sets (set (set (set l i x) (i + 1) y) (i + 2) z) (i + 3) vs → m ≡ sets l i (x ∷ y ∷ z ∷ vs)
+sets-three l m i x y z vs e =
+    let a : i + 1 ≡ suc i = omega arith in
+    let b : i + 2 ≡ suc (suc i) = omega arith in
+    let c : i + 3 ≡ suc (suc (suc i)) = omega arith in
+    rw (a, b, c) at e
