@@ -56,7 +56,7 @@ returns c =
     let p = c .before .before .append .ensures in
     let t = c .before .before .before .before .before .before .tier-of .ensures .0 in
     let n = c .before .before .before .before .before .word .ensures .0 in
-    let k = c .before .before .before .before .strike-kind .ensures in
+    let k = c .before .before .before .strike-kind .ensures in
     told (s .args .rec .now) _ (s .args .words .now) (s .args .offset) (s .args .used) (s .args .kind) _ _ _ _ t n k p
 
 pub strike-spec : {M : Type 1} → statement M
