@@ -1,0 +1,5 @@
+pub mod Chains
+pub mod Lines
+pub mod Moves
+pub mod Pairs
+pub mod Heads
