@@ -54,13 +54,13 @@ chain-apart lo hi ws [] c o p e f = absurd (true≢false (sym (unfold elem in e)
 chain-apart lo hi ws (x ∷ os) (h, k) o p e f =
     ⊎-elim
     (λ q. ⊎-elim
-        (λ r. inl (q ∙ sym r))
-        (λ r. inr (inl (subst (λ (y : ℕ). endAt ws y ≤ p) (sym q) (chain-above _ hi ws os k p r .0))))
-        (elem-cases p x os f))
+    (λ r. inl (q ∙ sym r))
+    (λ r. inr (inl (subst (λ (y : ℕ). endAt ws y ≤ p) (sym q) (chain-above _ hi ws os k p r .0))))
+    (elem-cases p x os f))
     (λ q. ⊎-elim
-        (λ r. inr (inr (subst (λ (y : ℕ). endAt ws y ≤ o) (sym r) (chain-above _ hi ws os k o q .0))))
-        (λ r. chain-apart _ hi ws os k o p q r)
-        (elem-cases p x os f))
+    (λ r. inr (inr (subst (λ (y : ℕ). endAt ws y ≤ o) (sym r) (chain-above _ hi ws os k o q .0))))
+    (λ r. chain-apart _ hi ws os k o p q r)
+    (elem-cases p x os f))
     (elem-cases o x os e)
 
 -- ---- words that hold the same clauses at os: the literals' words, the deleted bit and the class are the same
@@ -118,9 +118,9 @@ module _ (hi : ℕ) (os ws : List ℕ) (c : Chain 0 hi ws os) (room : hi ≤ len
       ⊎-elim
       (λ q. absurd (n q))
       (λ q. ⊎-elim
-          (λ r. ((λ z. omega arith), (λ z. omega arith)))
-          (λ r. ((λ z. omega arith), (λ z. omega arith)))
-          q)
+      (λ r. ((λ z. omega arith), (λ z. omega arith)))
+      (λ r. ((λ z. omega arith), (λ z. omega arith)))
+      q)
       (chain-apart 0 hi ws os c o p e listed)
 
   module _ (f : ℕ → ℕ) (bit : eqb (deletedOf (f (headAt ws p))) 1 ≡ deletedAt ws p) (class : eqb (tierOf (f (headAt ws p))) 0 ≡ originalAt ws p) where
