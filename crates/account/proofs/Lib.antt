@@ -6,3 +6,5 @@ pub mod Heads
 pub mod Striking
 pub mod Adding
 pub mod Reordering
+pub mod Tiers
+pub mod Bumping
