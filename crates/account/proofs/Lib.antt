@@ -8,3 +8,4 @@ pub mod Adding
 pub mod Reordering
 pub mod Tiers
 pub mod Bumping
+pub mod Reducing
