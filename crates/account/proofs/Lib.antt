@@ -9,3 +9,4 @@ pub mod Reordering
 pub mod Tiers
 pub mod Bumping
 pub mod Reducing
+pub mod Collecting
