@@ -10,3 +10,4 @@ pub mod Tiers
 pub mod Bumping
 pub mod Reducing
 pub mod Collecting
+pub mod Units
