@@ -11,3 +11,5 @@ pub mod Bumping
 pub mod Reducing
 pub mod Collecting
 pub mod Units
+pub mod Shortening
+pub mod Settling
