@@ -13,3 +13,4 @@ pub mod Collecting
 pub mod Units
 pub mod Shortening
 pub mod Settling
+pub mod Simplifying
