@@ -14,3 +14,4 @@ pub mod Units
 pub mod Shortening
 pub mod Settling
 pub mod Simplifying
+pub mod Accepted
