@@ -15,3 +15,5 @@ pub mod Shortening
 pub mod Settling
 pub mod Simplifying
 pub mod Accepted
+pub mod Stepping
+pub mod Running

@@ -17,9 +17,7 @@ use Rattle.laws.proofs.Folds.{and-left, and-right, and-both, any-find}
 use Rattle.laws.proofs.Sorting.{is-same, is-other, count-cons, count-nil, count-append, index-of, count-sort}
 use Rattle.laws.proofs.Writing.{elem-index}
 use Rattle.kinds.specs.Clauses.{Clause, headAt, tierAt, litsAt, deletedAt, originalAt, isLive}
-use Rattle.kinds.specs.Lines.{Line, line, strikeKind}
 use Rattle.kinds.specs.Held.{Held, listIn}
-use Rattle.demands.specs.Demands.{Reasoned, none-struck, strikesOriginal}
 use Rattle.calls.specs.StorePasses.{liveAt, refAt, insideAt, staleOk}
 use Rattle.calls.specs.Adding.{deleted, struck, removed, strikeNoted}
 use Rattle.calls.specs.Reducing.{stale, keptFirst, cleanedTier, tierEmptied, sortKey, sortedLocals, Round, spared, localDone, toStrike, localsRound, localsReduced, midDone, midsReduced}
@@ -27,7 +25,7 @@ use Rattle.calls.proofs.Readings.{Tier}
 use Rattle.account.specs.Weights.{Chained}
 use Rattle.account.proofs.Moves.{Moves, moves-trans}
 use Rattle.account.proofs.Heads.{elem-here, elem-later, elem-cases, Alike, alike-refl, Unmoved, unmoved-refl, unmoved-trans, unmoved-chained, unmoved-moves}
-use Rattle.account.proofs.Striking.{strikes-redundant, struck-moves}
+use Rattle.account.proofs.Striking.{strikes-redundant, redundant-reason, struck-moves}
 use Rattle.account.proofs.Tiers.{mid-unmoved}
 
 -- ---- entries and counts
@@ -203,10 +201,6 @@ module _ (s : Held) (o : ℕ) (l : List ℕ) (c : Standing s (o ∷ l)) where
         live = λ v k. rw (struck-head v k) (d .live v k);
         class = λ v k. rw (struck-head v k) (d .class v k);
       }
-
-  redundant-reason : (a : List ℕ) (b : Bool) → b ≡ false → (q : Line) (ls : List ℕ) → Reasoned a q (line (strikeKind b 4) ls)
-  redundant-reason a true e q ls = absurd (true≢false e)
-  redundant-reason a false e q ls = none-struck refl
 
   pub deleted-moves : (w : Clause → ℕ) (a : List ℕ) → Chained s → Moves w a [] s (deleted o s)
   deleted-moves w a d =

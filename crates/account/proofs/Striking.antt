@@ -1,6 +1,6 @@
 -- A listed clause struck: one clause less, and one line more. Assumes nothing.
 use mathlib.Core.Path.{_≡_, refl, sym, ap, _∙_}
-use mathlib.Core.Bool.{Bool, true, false, cond}
+use mathlib.Core.Bool.{Bool, true, false, cond, true≢false}
 use mathlib.Core.List.{List, [], _∷_}
 use Prim.Native.Nat.{ℕ, _+_, _*_, _/_, _%_, _≤_, _<_}
 use native.Mathlib.Omega.{arith}
@@ -14,7 +14,7 @@ use Rattle.kinds.specs.Header.{deletedOf, withDeleted}
 use Rattle.kinds.specs.Clauses.{Clause, headAt, lenAt, litsAt, endAt, deletedAt, originalAt, changeHead, longs, pairs}
 use Rattle.kinds.specs.Lines.{Line, line, flat, ofKind, isEntry, isStrike, strikeKind}
 use Rattle.kinds.specs.Held.{Held}
-use Rattle.demands.specs.Demands.{AllReasoned, Reasoned}
+use Rattle.demands.specs.Demands.{AllReasoned, Reasoned, none-struck}
 use Rattle.calls.specs.Adding.{removed, strikeNoted, struck}
 use Rattle.account.specs.Weights.{total, weigh, entered, struckIn, Chain, Chained}
 use Rattle.account.proofs.Chains.{Only, weigh-live, weigh-gone, update-total, update-chain}
@@ -58,6 +58,11 @@ pub strikes-satisfied : (b : Bool) → Strikes 5 b
 unfolding ofKind total isEntry isStrike
 strikes-satisfied true = record { none-entered = λ w ls. refl; weight = λ w ls. omega arith }
 strikes-satisfied false = strikes-redundant 5
+
+-- a redundant clause is struck with no reason asked
+pub redundant-reason : (a : List ℕ) (b : Bool) → b ≡ false → (q : Line) (ls : List ℕ) → Reasoned a q (line (strikeKind b 4) ls)
+redundant-reason a true e q ls = absurd (true≢false e)
+redundant-reason a false e q ls = none-struck refl
 
 -- ---- any change inside the listed clause at o
 
