@@ -17,3 +17,5 @@ pub mod Simplifying
 pub mod Accepted
 pub mod Stepping
 pub mod Running
+pub mod AsSets
+pub mod Demand3

@@ -29,9 +29,13 @@ linesIn-flat (suc f) (l ∷ ls) h =
     let k = length-append (l .lits) (flat ls) in
     ap₂ (λ (c : List ℕ) (ms : List Line). line (l .kind) c ∷ ms) (take-append-seam (l .lits) (flat ls)) (ap (linesIn f) (drop-append-seam (l .lits) (flat ls)) ∙ linesIn-flat f ls (omega arith))
 
-pub lines-flat : (ls : List Line) → lines (flat ls) ≡ ls
+lines-flat : (ls : List Line) → lines (flat ls) ≡ ls
 unfolding lines
 lines-flat ls = linesIn-flat (length (flat ls)) ls (omega arith)
+
+-- what was emptied, with what stands now
+pub lines-whole : (a b : List ℕ) (ls ms : List Line) → a ≡ flat ls → b ≡ flat ms → lines (a ++ b) ≡ ls ++ ms
+lines-whole a b ls ms p q = rw (p, q, ← flat-append, lines-flat)
 
 ofKind-append : (p : ℕ → Bool) (ls ms : List Line) → ofKind p (ls ++ ms) ≡ ofKind p ls ++ ofKind p ms
 unfolding ofKind
