@@ -23,6 +23,10 @@ use Rattle.account.proofs.Moves.{Moves, all-split, quiet}
 
 -- ---- entries of a list
 
+pub elem-none : (x : ℕ) → elem x [] ≡ true → ⊥
+unfolding elem
+elem-none x e = true≢false (sym e)
+
 pub elem-here : (o : ℕ) (os : List ℕ) → elem o (o ∷ os) ≡ true
 unfolding elem
 elem-here o os = rw (eq-eqb o o refl)
@@ -42,7 +46,7 @@ elem-cases x o os e = go (eqb x o) refl e
 -- ---- listed clauses are apart
 
 pub chain-above : (lo hi : ℕ) (ws os : List ℕ) → Chain lo hi ws os → (o : ℕ) → elem o os ≡ true → (lo ≤ o) × (endAt ws o ≤ hi)
-chain-above lo hi ws [] c o e = absurd (true≢false (sym (unfold elem in e)))
+chain-above lo hi ws [] c o e = absurd (elem-none o e)
 chain-above lo hi ws (x ∷ os) (h, k) o e =
     ⊎-elim
     (λ q. let l = chain-le _ hi ws os k in (omega arith, subst (λ (y : ℕ). endAt ws y ≤ hi) (sym q) l))
@@ -50,7 +54,7 @@ chain-above lo hi ws (x ∷ os) (h, k) o e =
     (elem-cases o x os e)
 
 pub chain-apart : (lo hi : ℕ) (ws os : List ℕ) → Chain lo hi ws os → (o p : ℕ) → elem o os ≡ true → elem p os ≡ true → (o ≡ p) ⊎ ((endAt ws o ≤ p) ⊎ (endAt ws p ≤ o))
-chain-apart lo hi ws [] c o p e f = absurd (true≢false (sym (unfold elem in e)))
+chain-apart lo hi ws [] c o p e f = absurd (elem-none o e)
 chain-apart lo hi ws (x ∷ os) (h, k) o p e f =
     ⊎-elim
     (λ q. ⊎-elim

@@ -12,6 +12,7 @@ pub mod Reducing
 pub mod Collecting
 pub mod Units
 pub mod Shortening
+pub mod Opening
 pub mod Settling
 pub mod Simplifying
 pub mod Accepted

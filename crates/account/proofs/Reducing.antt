@@ -24,14 +24,14 @@ use Rattle.calls.specs.Reducing.{stale, keptFirst, cleanedTier, tierEmptied, so
 use Rattle.calls.proofs.Readings.{Tier}
 use Rattle.account.specs.Weights.{Chained}
 use Rattle.account.proofs.Moves.{Moves, moves-trans}
-use Rattle.account.proofs.Heads.{elem-here, elem-later, elem-cases, Alike, alike-refl, Unmoved, unmoved-refl, unmoved-trans, unmoved-chained, unmoved-moves}
+use Rattle.account.proofs.Heads.{elem-none, elem-here, elem-later, elem-cases, Alike, alike-refl, Unmoved, unmoved-refl, unmoved-trans, unmoved-chained, unmoved-moves}
 use Rattle.account.proofs.Striking.{strikes-redundant, redundant-reason, struck-moves}
 use Rattle.account.proofs.Tiers.{mid-unmoved}
 
 -- ---- entries and counts
 
 elem-counted : (x : ℕ) (l : List ℕ) → elem x l ≡ true → 0 < count x l
-elem-counted x [] e = absurd (true≢false (sym (unfold elem in e)))
+elem-counted x [] e = absurd (elem-none x e)
 elem-counted x (y ∷ l) e =
     ⊎-elim
     (λ q. omega (arith, count-cons x y l, is-same y x (sym q)))

@@ -81,7 +81,7 @@ left-differ n a (l ∷ ls) (h, k, r) = go (isFalse a l) (left-differ n a ls r) (
     go true r e = r
     go false r e = (h, e, r)
 
-left-within : (a ls : List ℕ) (x : ℕ) → elem x (unfalsified a ls) ≡ true → elem x ls ≡ true
+pub left-within : (a ls : List ℕ) (x : ℕ) → elem x (unfalsified a ls) ≡ true → elem x ls ≡ true
 unfolding unfalsified elem
 left-within a [] x h = h
 left-within a (l ∷ ls) x h = go (isFalse a l) h (eqb x l) refl (left-within a ls x)
