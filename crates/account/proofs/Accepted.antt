@@ -2,7 +2,7 @@
 use mathlib.Core.Path.{_≡_, refl, sym, ap, _∙_, subst}
 use mathlib.Core.Bool.{Bool, true, false, cond, not, _&&_, _||_, true≢false}
 use mathlib.Core.List.{List, [], _∷_, _++_}
-use Prim.Native.Nat.{ℕ, zero, suc, _+_, _-_, _*_, _/_, _%_, _≤_, _<_}
+use Prim.Native.Nat.{ℕ, zero, suc, _+_, _-_, _*_, _/_, _%_, _^_, _≤_, _<_}
 use native.Mathlib.Omega.{arith}
 use lib.ListN.{length}
 use lib.Dec.{eqb, leb, ltb}
@@ -11,19 +11,20 @@ use Rattle.laws.specs.Fold.{anyBelow}
 use Rattle.laws.specs.Lists.{at, listAt, elem}
 use Rattle.laws.proofs.Folds.{and-left, and-right, any-at}
 use Rattle.laws.proofs.Writing.{elem-place}
-use Rattle.kinds.specs.Clauses.{Clause, clauseAt, litsAt, lenAt, glueAt, tierAt, deletedAt, originalAt, isLive, longs, neg, varOf}
+use Rattle.kinds.specs.Clauses.{Clause, clauseAt, endAt, litsAt, lenAt, glueAt, tierAt, deletedAt, originalAt, isLive, longs, neg, varOf}
 use Rattle.kinds.specs.Lent.{Lent, Parts, roomOf}
 use Rattle.kinds.specs.Held.{Held, asserting}
 use Rattle.kinds.specs.Layout.{view, fit, lentThen}
 use Rattle.calls.specs.Call.{Command, addClause, setTier, delete, addBinary, bump, reduceLocals, reduceMids, unitSimplify, parts}
-use Rattle.calls.specs.Size.{sizesOk}
+use Rattle.calls.specs.Size.{varsInRange, sized, wordsSized, sizesOk}
 use Rattle.calls.specs.StorePasses.{litsOk, storePasses, tiersOk, wordsPass}
 use Rattle.calls.specs.HostPasses.{hostPasses}
 use Rattle.calls.specs.Refusing.{lowest, clauseWrong, tierWrong, glueWrong, notLive, irredChange, unready, lacking, longLacking, pairLacking, rowLacking, anyLacking, own}
 use Rattle.calls.specs.Adding.{addedLong}
 use Rattle.calls.specs.Outcome.{step, judged, refusedFor, hasRoom, number}
-use Rattle.calls.proofs.Readings.{Lits, lits-read, LiveClause, Words, Tier, held-words, held-tier, words-pass, tiers-pass}
-use Rattle.calls.proofs.After.{judged-zero, own-zero, room-true, counts-length, rows-length}
+use Rattle.calls.proofs.Readings.{lent-test, Lits, lits-read, LiveClause, Words, Tier, held-words, held-tier, words-pass, tiers-pass}
+use Rattle.calls.proofs.After.{sizes-true, judged-zero, own-zero, room-true, counts-length, rows-length}
+use Rattle.account.specs.Weights.{Chain, Chained}
 use Rattle.account.proofs.Heads.{elem-here, elem-later}
 use Rattle.account.proofs.Shortening.{Differ, AllDiffer, read-differ}
 use Rattle.account.proofs.Simplifying.{RowFine, pair-fine}
@@ -49,6 +50,15 @@ none-at f n k l e = go (f k) refl
     go true q = absurd (true≢false (sym (any-at f n k l q) ∙ e))
     go false q = refl
 
+-- entries that rise, each ending by the next one's start
+chain-of : (hi : ℕ) (ws l : List ℕ) (lo : ℕ) → ((i : ℕ) → i < length l → endAt ws (at l i) ≤ hi) → ((i : ℕ) → i + 1 < length l → endAt ws (at l i) ≤ at l (i + 1)) → (0 < length l → lo ≤ at l 0) → lo ≤ hi → Chain lo hi ws l
+chain-of hi ws [] lo ends next first low = low
+chain-of hi ws (o ∷ l) lo ends next first low = (
+  first (omega arith),
+  chain-of hi ws l (endAt ws o) (λ i h. ends (suc i) (omega arith)) (λ i h. subst (λ (x : ℕ). endAt ws (at l i) ≤ at (o ∷ l) x) (let e : suc i + 1 ≡ suc (i + 1) = omega arith in e) (next (suc i) (omega arith)))
+      (λ h. subst (λ (x : ℕ). endAt ws o ≤ at (o ∷ l) x) (let e : 0 + 1 ≡ suc 0 = omega arith in e) (next 0 (omega arith))) (ends 0 (omega arith)),
+)
+
 module _ (c : Command) (k : Lent) (z : number c k ≡ 0) where
   pub store-true : storePasses (parts c) (view k) ≡ true
   unfolding judged lowest
@@ -69,10 +79,25 @@ module _ (c : Command) (k : Lent) (z : number c k ≡ 0) where
       let p = elem-place o (h .clauses) l in
       subst (λ (x : ℕ). LiveClause (h .words) (h .vars) x) (p .2) (read-words e .clause (p .0) (p .1) (ap (deletedAt (h .words)) (p .2) ∙ d))
 
+  used-room : parts c .words ≡ true → h .used ≤ length (h .words)
+  unfolding view sizesOk wordsSized sized
+  used-room e =
+      leb-true (k .state .words) (length (k .words))
+      (and-right (leb (length (k .words)) (2 ^ 24)) _ (and-left _ _ (lent-test (parts c .words) (wordsSized k) (and-left _ _ (and-right (lentThen (parts c .vars) (varsInRange (k .state .vars))) _ (sizes-true c k z))) e)))
+
   -- as many rows as literals
   rows-two : parts c .rows ≡ true → length (h .rows) ≡ 2 * h .vars
   unfolding view
   rows-two e = rows-length (roomOf (k .state .vars) (k .rows)) (k .counts) (k .rows) ∙ counts-length c k z e
+
+  -- "Clause list offsets rise; each clause ends by the next one's start and by the used length": no two overlap
+  pub judged-chained : parts c .words ≡ true → Chained (view k)
+  judged-chained e =
+      let r = read-words e in
+      record {
+        chain = chain-of (h .used) (h .words) (h .clauses) 0 (r .ends) (r .next) (λ l. omega arith) (omega arith);
+        room = used-room e;
+      }
 
 -- ---- a live reference
 

@@ -114,7 +114,7 @@ pub record Only (o e : ℕ) (ws vs : List ℕ) : Type 0 where
 
 module _ (hi : ℕ) (ws vs pre : List ℕ) (o : ℕ) (post : List ℕ) (c : Chain 0 hi ws (pre ++ o ∷ post)) (u : Only o (endAt ws o) ws vs) where
   -- the other clauses stay as they are
-  update-pre : longs vs pre ≡ longs ws pre
+  pub update-pre : longs vs pre ≡ longs ws pre
   update-pre = longs-same 0 o ws vs pre (chain-pre 0 hi ws pre o post c) (λ i h k. u .below i k)
 
   pub update-post : longs vs post ≡ longs ws post

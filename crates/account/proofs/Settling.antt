@@ -11,16 +11,19 @@ use lib.Seq.{sets, length-sets}
 use borrow.Author.Tests.{eqb-true, eqb-false}
 use Rattle.laws.specs.Lists.{at, readN, snoc}
 use Rattle.laws.proofs.Writing.{sets-below, sets-above, sets-at, readN-sets, readN-tail, readN-all, length-readN}
-use Rattle.kinds.specs.Clauses.{Clause, pair, headAt, lenAt, litsAt, endAt, deletedAt, originalAt, longs, pairs, neg}
+use Rattle.kinds.specs.Clauses.{Clause, clauseAt, pair, headAt, lenAt, litsAt, endAt, deletedAt, originalAt, longs, pairs, neg}
 use Rattle.kinds.specs.Lines.{Line, line, lineWords, flat, ofKind, isEntry, isStrike, strikeKind, entryKind}
 use Rattle.kinds.specs.Held.{Held, withClauses, withWords}
 use Rattle.kinds.specs.declared.Verdict.{Verdict}
 use Rattle.kinds.specs.declared.Verdict.the-variants.{Satisfied, Same, Shorter}
 use Rattle.demands.specs.Demands.{AllReasoned, none-struck, is-true, entered-before}
-use Rattle.calls.specs.Adding.{removed, strikeNoted, struck, addedPair}
+use Rattle.calls.specs.Adding.{removed, strikeNoted, struck, pairPushed, addedPair}
 use Rattle.calls.specs.Simplifying.{anyTrue, unfalsified, verdictOf, shorterNoted, shortened, kept, shorterDone, verdictDone, clauseDone}
+use Rattle.account.specs.Open.{OpenLits, AllOpen, RowsOpen}
 use Rattle.account.specs.Weights.{total, weigh, Blind, entered, struckIn, Chained}
-use Rattle.account.proofs.Chains.{Only, chain-le, chain-post, weigh-live, weigh-gone, update-total, update-chain, update-post, drop-total, drop-chain}
+use Rattle.account.proofs.Heads.{elem-here, elem-later}
+use Rattle.account.proofs.Opening.{left-open, left-whole, open-append, pushed-open}
+use Rattle.account.proofs.Chains.{longs-append, update-pre, Only, chain-le, chain-post, weigh-live, weigh-gone, update-total, update-chain, update-post, drop-total, drop-chain}
 use Rattle.account.proofs.Lines.{flat-one}
 use Rattle.account.proofs.Moves.{Moves, all-split}
 use Rattle.account.proofs.Pairs.{pushed-total}
@@ -36,6 +39,9 @@ pub record Settled (w : Clause → ℕ) (a : List ℕ) (o : ℕ) (os : List ℕ)
   pub later : longs (t .words) os ≡ longs (s .words) os
   pub size : length (t .rows) ≡ length (s .rows)
   pub values : t .host .values ≡ s .host .values
+  -- what is kept has no assigned literal
+  pub longs-open : AllOpen a (longs (s .words) (s .clauses)) → AllOpen a (longs (t .words) (t .clauses))
+  pub rows-open : RowsOpen a (s .rows) → RowsOpen a (t .rows)
 
 -- t is s with the lines ls behind the record, and other words, list, rows and counts
 pub record Wrote (s t : Held) (ls : List Line) : Type 0 where
@@ -51,12 +57,25 @@ module _ (w : Clause → ℕ) (a : List ℕ) (o : ℕ) (os : List ℕ) (s : Held
   here : endAt ws o ≤ s .used
   here = chain-le _ (s .used) ws os (chain-post 0 (s .used) ws (s .clauses) o os (c .chain))
 
+  one-open : (vs : List ℕ) → OpenLits a (litsAt vs o) → AllOpen a (longs vs (o ∷ []))
+  unfolding longs
+  one-open vs g = go (deletedAt vs o)
+    where
+      go : (b : Bool) → AllOpen a (cond b [] (clauseAt vs o ∷ []))
+      go true = tt
+      go false = (g, tt)
+
+  kept-open : (vs : List ℕ) → Only o (endAt ws o) ws vs → AllOpen a (longs ws (s .clauses)) → OpenLits a (litsAt vs o) → AllOpen a (longs vs (snoc (s .clauses) o))
+  kept-open vs u b g =
+      subst (λ (cs : List Clause). AllOpen a cs) (sym (longs-append vs (s .clauses) (o ∷ [])))
+      (open-append a (longs vs (s .clauses)) (longs vs (o ∷ [])) (subst (λ (cs : List Clause). AllOpen a cs) (sym (update-pre (s .used) ws vs (s .clauses) o os (c .chain) u)) b) (one-open vs g))
+
   -- the clause leaves the list
   drops : (t : Held) (ls : List Line) → Wrote s t ls → t .clauses ≡ s .clauses → Only o (endAt ws o) ws (t .words) → ((q : Line) → AllReasoned a q ls)
       → entered w ls + (weigh w ws o + total w (pairs 0 (s .rows))) ≡ total w (pairs 0 (t .rows)) + struckIn w ls
-      → Settled w a o os s t
+      → (RowsOpen a (s .rows) → RowsOpen a (t .rows)) → Settled w a o os s t
   unfolding total
-  drops t ls d k u f e =
+  drops t ls d k u f e r =
       let m = drop-total (s .used) ws (t .words) (s .clauses) o os (c .chain) u w in
       record {
         moves = record {
@@ -69,13 +88,15 @@ module _ (w : Clause → ℕ) (a : List ℕ) (o : ℕ) (os : List ℕ) (s : Held
         later = update-post (s .used) ws (t .words) (s .clauses) o os (c .chain) u;
         size = d .size;
         values = d .values;
+        longs-open = λ g. rw k (subst (λ (cs : List Clause). AllOpen a cs) (sym (update-pre (s .used) ws (t .words) (s .clauses) o os (c .chain) u)) g);
+        rows-open = r;
       }
 
   -- the clause stays in the list
   keeps : (t : Held) (ls : List Line) → Wrote s t ls → t .clauses ≡ snoc (s .clauses) o → t .rows ≡ s .rows → Only o (endAt ws o) ws (t .words) → lenAt (t .words) o ≤ lenAt ws o
-      → ((q : Line) → AllReasoned a q ls) → entered w ls + weigh w ws o ≡ weigh w (t .words) o + struckIn w ls → Settled w a o os s t
+      → ((q : Line) → AllReasoned a q ls) → entered w ls + weigh w ws o ≡ weigh w (t .words) o + struckIn w ls → OpenLits a (litsAt (t .words) o) → Settled w a o os s t
   unfolding total
-  keeps t ls d k r u n f e =
+  keeps t ls d k r u n f e g =
       let m = update-total (s .used) ws (t .words) (s .clauses) o os (c .chain) u w in
       record {
         moves = record {
@@ -88,6 +109,8 @@ module _ (w : Clause → ℕ) (a : List ℕ) (o : ℕ) (os : List ℕ) (s : Held
         later = update-post (s .used) ws (t .words) (s .clauses) o os (c .chain) u;
         size = d .size;
         values = d .values;
+        longs-open = λ b. rw k (kept-open (t .words) u b g);
+        rows-open = λ b. rw r b;
       }
 
   unmoved : Only o (endAt ws o) ws ws
@@ -99,7 +122,7 @@ module _ (w : Clause → ℕ) (a : List ℕ) (o : ℕ) (os : List ℕ) (s : Held
 
   -- an entry of a deleted clause
   pub gone-one : deletedAt ws o ≡ true → Settled w a o os s s
-  gone-one d = drops s [] (nothing-written s refl refl refl refl) refl unmoved (λ q. unfold AllReasoned in tt) (unfold ofKind total in rw (weigh-gone w ws o d) (omega arith))
+  gone-one d = drops s [] (nothing-written s refl refl refl refl) refl unmoved (λ q. unfold AllReasoned in tt) (unfold ofKind total in rw (weigh-gone w ws o d) (omega arith)) (λ b. b)
 
   abbrev ls : List ℕ
   ls = litsAt ws o
@@ -136,10 +159,10 @@ module _ (w : Clause → ℕ) (a : List ℕ) (o : ℕ) (os : List ℕ) (s : Held
         let x = st .none-entered w ls in
         let y = st .weight w ls in
         drops (struck 5 o s) (line (strikeKind (originalAt ws o) 5) ls ∷ []) (record { used = refl; rec = rw flat-one; size = refl; values = refl }) refl (marked-only o ws)
-        (λ q. unfold AllReasoned in (is-true t, tt)) (omega (arith, weigh-live w ws o live))
+        (λ q. unfold AllReasoned in (is-true t, tt)) (omega (arith, weigh-live w ws o live)) (λ b. b)
 
-    same-one : Settled w a o os s (kept o s)
-    same-one = keeps (kept o s) [] (nothing-written (kept o s) refl refl refl refl) refl refl unmoved (omega arith) (λ q. unfold AllReasoned in tt) (unfold ofKind total in omega arith)
+    same-one : OpenLits a ls → Settled w a o os s (kept o s)
+    same-one g = keeps (kept o s) [] (nothing-written (kept o s) refl refl refl refl) refl refl unmoved (omega arith) (λ q. unfold AllReasoned in tt) (unfold ofKind total in omega arith) g
 
     short : length left ≤ lenAt ws o
     short = omega (arith, length-unfalsified a ls, length-readN ws (o + 3) (lenAt ws o))
@@ -176,18 +199,23 @@ module _ (w : Clause → ℕ) (a : List ℕ) (o : ℕ) (os : List ℕ) (s : Held
     or-true false = refl
 
     -- "three or more are written over the front"
-    shrink-one : eqb (length left) 2 ≡ false → Settled w a o os s (kept o (shortened left o (shorterNoted left o s)))
+    shrink-one : anyTrue a ls ≡ false → eqb (length left) 2 ≡ false → Settled w a o os s (kept o (shortened left o (shorterNoted left o s)))
     unfolding shortened shorterNoted strikeNoted
-    shrink-one n =
+    shrink-one y n =
         let b = originalAt ws o in
         let e : entryKind b (length left) ≡ cond b 2 3 = rw (n, or-false b) in
         let h : weigh w vs o ≡ w (record { original = b; lits = left }) = weigh-live w vs o (rw shrunk-head live) ∙ rw (shrunk-head, shrunk-lits) in
         let k = short-lines b b left in
         let l = weigh-live w ws o live in
         keeps (kept o (shortened left o (shorterNoted left o s))) (line (cond b 2 3) left ∷ line (cond b 6 4) ls ∷ [])
-        (record { used = refl; rec = rw (e, flat-two, append-assoc); size = refl; values = refl }) refl refl shrunk-only (rw shrunk-len short) (short-reasoned b b) (omega arith)
+        (record { used = refl; rec = rw (e, flat-two, append-assoc); size = refl; values = refl }) refl refl shrunk-only (rw shrunk-len short) (short-reasoned b b) (omega arith) (rw shrunk-lits (left-open a ls y))
 
-    module _ (blind : Blind w) (ok : Differ (length (s .rows)) ls) where
+    module _ (blind : Blind w) (ok : Differ (length (s .rows)) ls) (untrue : anyTrue a ls ≡ false) where
+      two-pushed : (x y : ℕ) → x ∷ y ∷ [] ≡ left → RowsOpen a (s .rows) → RowsOpen a (pairPushed x y (s .rows))
+      two-pushed x y e g =
+          let f : OpenLits a (x ∷ y ∷ []) = subst (λ (r : List ℕ). OpenLits a r) (sym e) (left-open a ls untrue) in
+          pushed-open a x y (s .rows) (f x (elem-here x (y ∷ []))) (f y (elem-later y x (y ∷ []) (elem-here y []))) g
+
       -- "two literals left become a binary clause"
       pair-one : (r : List ℕ) → r ≡ left → length r ≡ 2 → Settled w a o os s (addedPair (at r 0) (at r 1) (removed o (shorterNoted r o s)))
       unfolding addedPair removed shorterNoted strikeNoted
@@ -202,7 +230,7 @@ module _ (w : Clause → ℕ) (a : List ℕ) (o : ℕ) (os : List ℕ) (s : Held
           let v = weigh-live w ws o live in
           drops (addedPair x y (removed o (shorterNoted (x ∷ y ∷ []) o s))) (line 2 (x ∷ y ∷ []) ∷ line (cond b 6 4) ls ∷ [])
           (record { used = refl; rec = rw (p, flat-two, append-assoc); size = simp length-set; values = refl }) refl (marked-only o ws)
-          (subst (λ (r : List ℕ). (q : Line) → AllReasoned a q (line 2 r ∷ line (cond b 6 4) ls ∷ [])) (sym e) (short-reasoned b true)) (omega arith)
+          (subst (λ (r : List ℕ). (q : Line) → AllReasoned a q (line 2 r ∷ line (cond b 6 4) ls ∷ [])) (sym e) (short-reasoned b true)) (omega arith) (two-pushed x y e)
       pair-one (x ∷ y ∷ z ∷ r) e n = absurd (omega arith)
 
       shorter-one : Settled w a o os s (shorterDone left o s)
@@ -211,16 +239,16 @@ module _ (w : Clause → ℕ) (a : List ℕ) (o : ℕ) (os : List ℕ) (s : Held
         where
           go : (b : Bool) → eqb (length left) 2 ≡ b → Settled w a o os s (cond b (addedPair (at left 0) (at left 1) (removed o (shorterNoted left o s))) (kept o (shortened left o (shorterNoted left o s))))
           go true e = pair-one left refl (eqb-true (length left) 2 e)
-          go false e = shrink-one e
+          go false e = shrink-one untrue e
 
-      live-one : s .host .values ≡ a → Settled w a o os s (verdictDone (verdictOf (s .host .values) ls) o s)
-      unfolding verdictOf verdictDone
-      live-one v = subst (λ (x : List ℕ). Settled w a o os s (verdictDone (verdictOf x ls) o s)) (sym v) (go (anyTrue a ls) refl (eqb (length left) (length ls)))
-        where
-          go : (t : Bool) → anyTrue a ls ≡ t → (e : Bool) → Settled w a o os s (verdictDone (cond t Satisfied (cond e Same (Shorter (length left)))) o s)
-          go true p e = satisfied-one p
-          go false p true = same-one
-          go false p false = subst (λ (x : List ℕ). Settled w a o os s (shorterDone (unfalsified x ls) o s)) (sym v) shorter-one
+    live-one : Blind w → Differ (length (s .rows)) ls → s .host .values ≡ a → Settled w a o os s (verdictDone (verdictOf (s .host .values) ls) o s)
+    unfolding verdictOf verdictDone
+    live-one blind ok v = subst (λ (x : List ℕ). Settled w a o os s (verdictDone (verdictOf x ls) o s)) (sym v) (go (anyTrue a ls) refl (eqb (length left) (length ls)) refl)
+      where
+        go : (t : Bool) → anyTrue a ls ≡ t → (e : Bool) → eqb (length left) (length ls) ≡ e → Settled w a o os s (verdictDone (cond t Satisfied (cond e Same (Shorter (length left)))) o s)
+        go true p e q = satisfied-one p
+        go false p true q = same-one (subst (λ (r : List ℕ). OpenLits a r) (left-whole a ls (eqb-true (length left) (length ls) q)) (left-open a ls p))
+        go false p false q = subst (λ (x : List ℕ). Settled w a o os s (shorterDone (unfalsified x ls) o s)) (sym v) (shorter-one blind ok p)
 
   -- the clause at o, whatever becomes of it
   pub one-settled : Blind w → s .host .values ≡ a → (deletedAt ws o ≡ false → Differ (length (s .rows)) ls) → Settled w a o os s (clauseDone s o)

@@ -15,14 +15,17 @@ use Rattle.laws.proofs.Folds.{and-both}
 use Rattle.kinds.specs.Clauses.{Clause, clauseAt, pair, litsAt, deletedAt, longs, pairsIn, pairs, neg, varOf}
 use Rattle.kinds.specs.Lines.{Line, line, flat, ofKind, isEntry, isStrike}
 use Rattle.kinds.specs.Held.{Held, withClauses, isTrue, isOpen}
+use Rattle.demands.specs.Runs.{allHeld}
 use Rattle.demands.specs.Demands.{AllReasoned, is-true}
 use Rattle.calls.specs.Simplifying.{staysIn, rowCleaned, rowsCleaned, rowStrikes, rowsStrikes, binariesCleaned, anyTrue, clauseDone, simplified}
 use Rattle.calls.specs.Refusing.{openCount, lacking}
+use Rattle.account.specs.Open.{AllOpen, RowsOpen}
 use Rattle.account.specs.Weights.{total, Blind, entry, entered, struckIn, Chained}
 use Rattle.account.proofs.Lines.{entered-append, struck-append}
 use Rattle.account.proofs.Moves.{Moves, all-split, quiet, moves-trans, reasoned-append}
 use Rattle.account.proofs.Pairs.{row-cons, rows-cons}
 use Rattle.account.proofs.Shortening.{Differ, AllDiffer}
+use Rattle.account.proofs.Opening.{open-append, cleaned-open, pairs-open}
 use Rattle.account.proofs.Settling.{seen, Settled, one-settled}
 
 -- ---- the accounts of a row
@@ -124,6 +127,17 @@ module _ (w : Clause → ℕ) (blind : Blind w) (a : List ℕ) where
       moves-trans w a (seen (o ∷ os) s) (seen os (clauseDone s o)) _ (m .moves)
       (clauses-walk os (clauseDone s o) (m .moves .chain) (m .values ∙ v) (subst (λ (n : ℕ). AllDiffer n (longs (clauseDone s o .words) os)) (sym (m .size)) (subst (λ (cs : List Clause). AllDiffer (length (s .rows)) cs) (sym (m .later)) (k .1))))
 
+  -- what is kept has no assigned literal
+  clauses-open : (os : List ℕ) (s : Held) → Chained (seen os s) → s .host .values ≡ a → AllDiffer (length (s .rows)) (longs (s .words) os) → AllOpen a (longs (s .words) (s .clauses)) → RowsOpen a (s .rows)
+      → AllOpen a (longs (foldList clauseDone s os .words) (foldList clauseDone s os .clauses)) × RowsOpen a (foldList clauseDone s os .rows)
+  unfolding foldList
+  clauses-open [] s c v ok f g = (f, g)
+  clauses-open (o ∷ os) s c v ok f g =
+      let k = longs-differ (length (s .rows)) (s .words) o os ok in
+      let m = one-settled w a o os s c blind v (k .0) in
+      clauses-open os (clauseDone s o) (m .moves .chain) (m .values ∙ v) (subst (λ (n : ℕ). AllDiffer n (longs (clauseDone s o .words) os)) (sym (m .size)) (subst (λ (cs : List Clause). AllDiffer (length (s .rows)) cs) (sym (m .later)) (k .1)))
+      (m .longs-open f) (m .rows-open g)
+
 -- ---- the whole
 
 module _ (w : Clause → ℕ) (blind : Blind w) (s : Held) (c : Chained s) where
@@ -150,3 +164,13 @@ module _ (w : Clause → ℕ) (blind : Blind w) (s : Held) (c : Chained s) where
       let n : Moves w a [] t (withClauses (v .clauses ++ []) v) = unfold binariesCleaned in
       clauses-walk w blind a (s .clauses) u (m .chain) refl (subst (λ (n : ℕ). AllDiffer n (longs (s .words) (s .clauses))) (sym (rows-length a 0 (s .rows))) ok) in
       moves-trans w a s t v m (subst (λ (os : List ℕ). Moves w a [] t (withClauses os v)) (append-nil (v .clauses)) n)
+
+  -- every clause that is left has unassigned literals alone
+  pub simplified-open : AllDiffer (length (s .rows)) (longs (s .words) (s .clauses)) → AllOpen a (allHeld (simplified s))
+  unfolding simplified allHeld binariesCleaned
+  simplified-open ok =
+      let u : Held = withClauses [] (binariesCleaned s) in
+      let v : Held = foldList clauseDone u (s .clauses) in
+      let f = clauses-open w blind a (s .clauses) u (record { chain = c .chain; room = c .room }) refl (subst (λ (n : ℕ). AllDiffer n (longs (s .words) (s .clauses))) (sym (rows-length a 0 (s .rows))) ok)
+      (unfold longs in tt) (cleaned-open a (s .rows)) in
+      open-append a (longs (v .words) (v .clauses)) (pairs 0 (v .rows)) (f .0) (pairs-open a (v .rows) (f .1))
