@@ -20,3 +20,4 @@ pub mod Stepping
 pub mod Running
 pub mod AsSets
 pub mod Demand3
+pub mod ShutOut

@@ -23,6 +23,7 @@ use Rattle.calls.specs.Outcome.{Outcome, step, answer, number, startNumber, don
 use Rattle.calls.proofs.Laws.{accepts}
 use Rattle.calls.proofs.Shapes.{Shape, step-shape}
 use Rattle.calls.proofs.After.{judged-zero, own-zero, room-true, rows-length, tiers-length, held-after}
+use Rattle.account.specs.Four.{Four}
 use Rattle.account.specs.Weights.{total, Blind, entered, struckIn, Chained}
 use Rattle.account.proofs.Chains.{total-append}
 use Rattle.account.proofs.Lines.{flat-append, entered-append, struck-append}
@@ -31,10 +32,6 @@ use Rattle.account.proofs.Reordering.{reorder-moves}
 use Rattle.account.proofs.Stepping.{newIn, step-moves}
 
 -- ---- four lists and four used lengths, at every place of a run
-
-pub record Four (k : Lent) : Type 0 where
-  pub lists : length (k .tiers) ≡ 4
-  pub used : length (k .state .tiers) ≡ 4
 
 length-fillEach : (bs : List (List ℕ)) (ns : List ℕ) (ls : List (List ℕ)) → length (fillEach bs ns ls) ≡ length bs
 unfolding fillEach
