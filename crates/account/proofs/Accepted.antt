@@ -1,28 +1,27 @@
 -- What an accepted call was judged for: the readings that its step needs. Assumes nothing.
 use mathlib.Core.Path.{_≡_, refl, sym, ap, _∙_, subst}
 use mathlib.Core.Bool.{Bool, true, false, cond, not, _&&_, _||_, true≢false}
-use mathlib.Core.List.{List, [], _∷_, _++_}
-use Prim.Native.Nat.{ℕ, zero, suc, _+_, _-_, _*_, _/_, _%_, _^_, _≤_, _<_}
+use mathlib.Core.List.{List, [], _∷_}
+use Prim.Native.Nat.{ℕ, suc, _+_, _-_, _*_, _^_, _≤_, _<_}
 use native.Mathlib.Omega.{arith}
 use lib.ListN.{length}
 use lib.Dec.{eqb, leb, ltb}
-use borrow.Author.Tests.{leb-true, ltb-false, eqb-true, eqb-false, not-true, not-false}
+use borrow.Author.Tests.{leb-true, ltb-false, eqb-true, not-true}
 use Rattle.laws.specs.Fold.{anyBelow}
 use Rattle.laws.specs.Lists.{at, listAt, elem}
 use Rattle.laws.proofs.Folds.{and-left, and-right, any-at}
 use Rattle.laws.proofs.Writing.{elem-place}
-use Rattle.kinds.specs.Clauses.{Clause, clauseAt, endAt, litsAt, lenAt, glueAt, tierAt, deletedAt, originalAt, isLive, longs, neg, varOf}
-use Rattle.kinds.specs.Lent.{Lent, Parts, roomOf}
-use Rattle.kinds.specs.Held.{Held, asserting}
+use Rattle.kinds.specs.Clauses.{clauseAt, endAt, litsAt, lenAt, glueAt, tierAt, deletedAt, originalAt, isLive, longs, neg, varOf}
+use Rattle.kinds.specs.Lent.{Lent, roomOf}
+use Rattle.kinds.specs.Held.{Held}
 use Rattle.kinds.specs.Layout.{view, fit, lentThen}
-use Rattle.calls.specs.Call.{Command, addClause, setTier, delete, addBinary, bump, reduceLocals, reduceMids, unitSimplify, parts}
+use Rattle.calls.specs.Call.{Command, addClause, setTier, delete, addBinary, bump, unitSimplify, parts}
 use Rattle.calls.specs.Size.{varsInRange, sized, wordsSized, sizesOk}
-use Rattle.calls.specs.StorePasses.{litsOk, storePasses, tiersOk, wordsPass}
-use Rattle.calls.specs.HostPasses.{hostPasses}
-use Rattle.calls.specs.Refusing.{lowest, clauseWrong, tierWrong, glueWrong, notLive, irredChange, unready, lacking, longLacking, pairLacking, rowLacking, anyLacking, own}
+use Rattle.calls.specs.StorePasses.{storePasses}
+use Rattle.calls.specs.Refusing.{lowest, clauseWrong, tierWrong, glueWrong, notLive, irredChange, unready, longLacking, pairLacking, rowLacking, anyLacking, own}
 use Rattle.calls.specs.Adding.{addedLong}
 use Rattle.calls.specs.Outcome.{step, judged, refusedFor, hasRoom, number}
-use Rattle.calls.proofs.Readings.{lent-test, Lits, lits-read, LiveClause, Words, Tier, held-words, held-tier, words-pass, tiers-pass}
+use Rattle.calls.proofs.Readings.{lent-test, lits-read, LiveClause, Words, Tier, held-words, held-tier, words-pass, tiers-pass}
 use Rattle.calls.proofs.After.{sizes-true, judged-zero, own-zero, room-true, counts-length, rows-length}
 use Rattle.account.specs.Weights.{Chain, Chained}
 use Rattle.account.proofs.Heads.{elem-here, elem-later}

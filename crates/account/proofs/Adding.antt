@@ -1,16 +1,15 @@
 -- Adding a long clause: one clause more. Assumes nothing.
-use mathlib.Core.Path.{_≡_, refl, sym, ap, _∙_}
-use mathlib.Core.Bool.{Bool, true, false}
+use mathlib.Core.Path.{_≡_, refl, sym, _∙_}
+use mathlib.Core.Bool.{false}
 use mathlib.Core.List.{List, [], _∷_, _++_}
-use Prim.Native.Nat.{ℕ, zero, suc, _+_, _*_, _/_, _%_, _≤_, _<_, min}
+use Prim.Native.Nat.{ℕ, _+_, _≤_, _<_}
 use native.Mathlib.Omega.{arith}
 use lib.ListN.{length}
 use lib.Seq.{sets, length-sets}
 use lib.Dec.{eqb}
 use borrow.Author.Tests.{ne-eqb}
-use Rattle.laws.specs.Lists.{at}
 use Rattle.laws.proofs.Writing.{SameFrom, sets-below, sets-at, readN-sets, readN-tail, readN-all}
-use Rattle.kinds.specs.Header.{tierOf, deletedOf, newHead, saturated, withTier, withGlue}
+use Rattle.kinds.specs.Header.{tierOf, deletedOf, newHead}
 use Rattle.kinds.specs.Clauses.{Clause, headAt, lenAt, litsAt, deletedAt, originalAt, longs}
 use Rattle.kinds.specs.Held.{Held}
 use Rattle.calls.specs.Adding.{newWords, addedLong}

@@ -1,5 +1,5 @@
 -- "for each clause seen as a set": the weight that counts a clause as a set ignores the order of literals. Assumes nothing.
-use mathlib.Core.Path.{_≡_, refl, sym, ap, _∙_}
+use mathlib.Core.Path.{_≡_, refl, _∙_}
 use mathlib.Core.Bool.{Bool, true, false, cond, _&&_, _||_, Bool·beq}
 use mathlib.Core.List.{List, [], _∷_, List·Permᴰ, List·Permᴰ·swap, List·Permᴰ·cons, List·Permᴰ·trans, List·Permᴰ·nil}
 use Prim.Native.Nat.{ℕ, suc, _+_}

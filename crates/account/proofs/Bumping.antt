@@ -2,26 +2,26 @@
 use mathlib.Core.Path.{_≡_, refl, sym, ap, _∙_, subst}
 use mathlib.Core.Bool.{Bool, true, false, cond, true≢false}
 use mathlib.Core.Logic.{⊎-elim, _⊎_, inl, inr}
-use mathlib.Core.List.{List, [], _∷_, _++_}
-use Prim.Native.Nat.{ℕ, zero, suc, _+_, _≤_, _<_}
+use mathlib.Core.List.{List, [], _∷_}
+use Prim.Native.Nat.{ℕ, _+_, _<_}
 use native.Mathlib.Omega.{arith}
-use lib.ListN.{length, set, length-set}
-use lib.Dec.{eqb, ltb}
-use lib.Ieee.{lt, le, binary32, toBits}
+use lib.ListN.{length, length-set}
+use lib.Dec.{ltb}
+use lib.Ieee.{lt, le}
 use lib.Seq.{getD-set-same, getD-set-other}
-use borrow.Author.Tests.{eqb-true, eqb-false, ltb-true, ne-eqb}
+use borrow.Author.Tests.{ltb-true, ne-eqb}
 use Rattle.laws.specs.Fold.{foldList}
 use Rattle.laws.specs.Lists.{at, elem}
-use Rattle.kinds.specs.Header.{glueOf, withActive}
-use Rattle.kinds.specs.Clauses.{Clause, activityAt, headAt, lenAt, endAt, glueAt, deletedAt, originalAt, clauseAt, undeleted, longs, changeHead}
+use Rattle.kinds.specs.Header.{withActive}
+use Rattle.kinds.specs.Clauses.{Clause, activityAt, headAt, endAt, glueAt, deletedAt, originalAt, clauseAt, undeleted, longs}
 use Rattle.kinds.specs.Floats.{limit, scaled}
-use Rattle.kinds.specs.Held.{Held, withWords}
+use Rattle.kinds.specs.Held.{Held}
 use Rattle.demands.specs.Runs.{allHeld}
 use Rattle.calls.specs.Adding.{tierSet}
 use Rattle.calls.specs.Bumping.{scaledAt, rescaled, sumFor, activityRaised, activityBumped, activated, glueStored, glueLowered, tierFor, newGlue, bumped, bumpGrown, decayed}
 use Rattle.account.specs.Weights.{total, Chain, Chained}
-use Rattle.account.proofs.Chains.{chain-lower, chain-le}
-use Rattle.account.proofs.Moves.{Moves, all-split, quiet, moves-trans}
+use Rattle.account.proofs.Chains.{chain-lower}
+use Rattle.account.proofs.Moves.{Moves, quiet, moves-trans}
 use Rattle.account.proofs.Heads.{elem-here, elem-later, elem-cases, chain-apart, chain-above, Alike, alike-longs, alike-chain, Unmoved, unmoved-refl, unmoved-trans, unmoved-chained, unmoved-moves}
 use Rattle.account.proofs.Tiers.{active-keeps-glue, tier-for-range, activated-unmoved, glue-unmoved, tier-unmoved}
 

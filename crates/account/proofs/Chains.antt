@@ -1,14 +1,13 @@
 -- Clauses apart: a chain, and the clauses that it holds, depend on the words of its range only. Assumes nothing.
-use mathlib.Core.Path.{_≡_, refl, sym, ap, _∙_}
+use mathlib.Core.Path.{_≡_, refl, sym}
 use mathlib.Core.Bool.{Bool, true, false, cond}
 use mathlib.Core.List.{List, [], _∷_, _++_}
-use Prim.Native.Nat.{ℕ, zero, suc, _+_, _≤_, _<_}
+use Prim.Native.Nat.{ℕ, _+_, _≤_, _<_}
 use native.Mathlib.Omega.{arith}
 use native.Mathlib.Nat.{zero-add}
 use lib.ListN.{length, getD}
-use Rattle.laws.specs.Lists.{elem}
-use Rattle.laws.proofs.Writing.{SameFrom, same-part, readN-same, At}
-use Rattle.kinds.specs.Clauses.{Clause, clauseAt, lenAt, litsAt, endAt, headAt, deletedAt, originalAt, longs}
+use Rattle.laws.proofs.Writing.{SameFrom, same-part, readN-same}
+use Rattle.kinds.specs.Clauses.{Clause, clauseAt, lenAt, litsAt, endAt, headAt, deletedAt, longs}
 use Rattle.account.specs.Weights.{total, weigh, Chain}
 
 pub chain-le : (lo hi : ℕ) (ws os : List ℕ) → Chain lo hi ws os → lo ≤ hi

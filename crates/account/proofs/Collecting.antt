@@ -1,19 +1,19 @@
 -- Collecting: the live clauses close up, and are the same clauses. Assumes nothing.
-use mathlib.Core.Path.{_≡_, refl, sym, ap, _∙_}
+use mathlib.Core.Path.{_≡_, refl, ap, _∙_}
 use mathlib.Core.Bool.{Bool, true, false, cond}
-use mathlib.Core.List.{List, [], _∷_, _++_, append-nil, append-assoc}
-use Prim.Native.Nat.{ℕ, zero, suc, _+_, _-_, _≤_, _<_, max}
+use mathlib.Core.List.{List, [], _∷_, _++_, append-assoc}
+use Prim.Native.Nat.{ℕ, _+_, _-_, _≤_, max}
 use native.Mathlib.Omega.{arith}
 use native.Mathlib.Nat.{zero-add, add-assoc}
 use lib.ListN.{length, drop, replicate, length-append, List·getD-append}
 use lib.Seq.{getD-append-add}
-use Rattle.laws.specs.Lists.{at, readN, joined, starts, fill}
+use Rattle.laws.specs.Lists.{at, joined, starts, fill}
 use Rattle.laws.proofs.Writing.{length-readN, getD-readN, Moved, readN-moved}
-use Rattle.kinds.specs.Clauses.{Clause, clauseAt, headAt, lenAt, litsAt, sizeAt, endAt, wordsAt, deletedAt, originalAt, undeleted, longs}
+use Rattle.kinds.specs.Clauses.{Clause, clauseAt, headAt, lenAt, litsAt, sizeAt, wordsAt, deletedAt, undeleted, longs}
 use Rattle.kinds.specs.Held.{Held}
 use Rattle.kinds.proofs.Layouts.{length-fill}
 use Rattle.demands.specs.Runs.{allHeld}
-use Rattle.calls.specs.Collecting.{due, blocks, liveBlocks, newPlaces, closedUp, collected}
+use Rattle.calls.specs.Collecting.{due, blocks, liveBlocks, closedUp, collected}
 use Rattle.account.specs.Weights.{total, Chain, Chained}
 use Rattle.account.proofs.Chains.{chain-lower, chain-higher}
 use Rattle.account.proofs.Moves.{Moves, quiet}

@@ -1,26 +1,26 @@
 -- Demand 3: "times added or recorded as shortened = times held now + times recorded as struck", for originals and redundant clauses apart; and no original struck without its reason. Assumes nothing.
 use mathlib.Core.Path.{_≡_, refl, sym, ap, _∙_}
 use mathlib.Core.Bool.{Bool, true, false}
-use mathlib.Core.List.{List, [], _∷_, _++_, append-nil}
+use mathlib.Core.List.{List, [], _++_, append-nil}
 use Prim.Native.Nat.{ℕ, _+_}
 use native.Mathlib.Omega.{arith}
 use lib.Dec.{eqb}
 use borrow.Author.Tests.{eqb-true}
 use Rattle.kinds.specs.Clauses.{Clause}
-use Rattle.kinds.specs.Lines.{Line, line, flat, lines, ofKind, isEntry, isStrike}
+use Rattle.kinds.specs.Lines.{line, flat, lines, ofKind, isEntry, isStrike}
 use Rattle.kinds.specs.Lent.{Lent}
 use Rattle.kinds.specs.Held.{Held}
 use Rattle.kinds.specs.Layout.{view, side}
 use Rattle.calls.specs.Call.{Command, emptyRecord}
-use Rattle.calls.specs.Outcome.{number, done}
-use Rattle.demands.specs.Sets.{times, ever}
+use Rattle.calls.specs.Outcome.{number}
+use Rattle.demands.specs.Sets.{ever}
 use Rattle.demands.specs.Runs.{Past, Run, allHeld, wholeRecord}
 use Rattle.demands.specs.Demands.{Balanced, BalancedIn, AllReasoned, Written, Demand3}
 use Rattle.account.specs.Weights.{total, Blind}
 use Rattle.account.specs.Originals.{originals}
 use Rattle.account.proofs.Lines.{lines-whole, entered-append, struck-append}
 use Rattle.account.proofs.Stepping.{step-moves}
-use Rattle.account.proofs.Running.{Sound, run-sound, view-stepped, kept-refused}
+use Rattle.account.proofs.Running.{run-sound, view-stepped, kept-refused}
 use Rattle.account.proofs.AsSets.{asSet, times-total, blind-set, asOriginal, originals-total, blind-original}
 
 -- ---- under any weight, with the record read back

@@ -1,25 +1,25 @@
 -- Changes of headers alone (activity, active, glue, tiers): the same clauses are held. Assumes nothing.
-use mathlib.Core.Path.{_≡_, refl, sym, ap, _∙_, subst}
-use mathlib.Core.Bool.{Bool, true, false, cond, _||_, true≢false}
+use mathlib.Core.Path.{_≡_, refl, sym, _∙_, subst}
+use mathlib.Core.Bool.{Bool, true, false, _||_, true≢false}
 use mathlib.Core.Logic.{⊎-elim, _⊎_, inl, inr}
-use mathlib.Core.List.{List, [], _∷_, _++_}
-use Prim.Native.Nat.{ℕ, zero, suc, _+_, _≤_, _<_}
+use mathlib.Core.List.{List, [], _∷_}
+use Prim.Native.Nat.{ℕ, _+_, _≤_, _<_}
 use native.Mathlib.Omega.{arith}
 use native.Mathlib.Decide.{ℕ-discrete}
-use lib.ListN.{length, set, length-set}
+use lib.ListN.{length, length-set}
 use lib.Dec.{eqb}
 use lib.Seq.{getD-set-same, getD-set-other}
-use borrow.Author.Tests.{eqb-true, eqb-false, eq-eqb}
+use borrow.Author.Tests.{eqb-true, eq-eqb}
 use Rattle.laws.specs.Lists.{at, elem}
 use Rattle.laws.proofs.Writing.{readN-same}
-use Rattle.laws.proofs.Folds.{or-left, or-right}
+use Rattle.laws.proofs.Folds.{or-right}
 use Rattle.kinds.specs.Header.{tierOf, deletedOf}
-use Rattle.kinds.specs.Clauses.{Clause, clauseAt, headAt, lenAt, litsAt, endAt, deletedAt, originalAt, changeHead, longs, pairs}
+use Rattle.kinds.specs.Clauses.{Clause, headAt, lenAt, litsAt, endAt, deletedAt, originalAt, changeHead, longs}
 use Rattle.kinds.specs.Held.{Held}
 use Rattle.demands.specs.Runs.{allHeld}
 use Rattle.account.specs.Weights.{total, Chain, Chained}
-use Rattle.account.proofs.Chains.{chain-le, chain-lower}
-use Rattle.account.proofs.Moves.{Moves, all-split, quiet}
+use Rattle.account.proofs.Chains.{chain-le}
+use Rattle.account.proofs.Moves.{Moves, quiet}
 
 -- ---- entries of a list
 

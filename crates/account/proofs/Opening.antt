@@ -1,17 +1,16 @@
 -- What simplifying leaves is unassigned: literals, rows. Assumes nothing.
 use mathlib.Core.Path.{_≡_, refl, sym, ap, _∙_, subst}
-use mathlib.Core.Bool.{Bool, true, false, cond, not, _&&_, _||_, true≢false}
+use mathlib.Core.Bool.{Bool, true, false, cond, not, _||_, true≢false}
 use mathlib.Core.Logic.{⊎-elim, _⊎_, inl, inr}
 use mathlib.Core.List.{List, [], _∷_, _++_}
-use Prim.Native.Nat.{ℕ, zero, suc, _+_, _-_, _*_, _/_, _%_, _≤_, _<_}
+use Prim.Native.Nat.{ℕ, zero, suc, _+_, _-_, _≤_}
 use native.Mathlib.Omega.{arith}
 use native.Mathlib.Decide.{ℕ-discrete, decLe}
 use native.Mathlib.Nat.{add-zero}
-use lib.ListN.{length, set}
-use lib.Dec.{eqb, ltb}
+use lib.ListN.{length}
+use lib.Dec.{ltb}
 use lib.Seq.{getD-set-same, getD-set-other, set-out}
-use borrow.Author.Tests.{eqb-true}
-use Rattle.laws.specs.Lists.{at, listAt, elem, snoc, push}
+use Rattle.laws.specs.Lists.{listAt, elem, snoc, push}
 use Rattle.laws.proofs.Folds.{and-left, and-right, and-both}
 use Rattle.kinds.specs.Clauses.{Clause, pair, neg, varOf, pairsIn, pairs}
 use Rattle.kinds.specs.Held.{isTrue, isOpen, isFalse}

@@ -1,17 +1,17 @@
 -- The binary rows hold each pair once: what one more pair weighs. Assumes nothing.
-use mathlib.Core.Path.{_≡_, refl, sym}
+use mathlib.Core.Path.{_≡_, refl}
 use mathlib.Core.Bool.{Bool, true, false, cond}
-use mathlib.Core.List.{List, [], _∷_, _++_, List·Permᴰ, List·Permᴰ·swap}
-use Prim.Native.Nat.{ℕ, zero, suc, _+_, _-_, _*_, _%_, _<_}
+use mathlib.Core.List.{List, [], _∷_, _++_, List·Permᴰ·swap}
+use Prim.Native.Nat.{ℕ, zero, suc, _+_, _-_, _<_}
 use native.Mathlib.Omega.{arith}
 use native.Mathlib.Nat.{add-suc, suc-add, add-zero, zero-add}
-use lib.ListN.{length, set, length-set}
+use lib.ListN.{length, length-set}
 use lib.Dec.{ltb}
 use borrow.Author.Tests.{ltb-true, ltb-false}
-use Rattle.laws.specs.Lists.{at, push}
+use Rattle.laws.specs.Lists.{push}
 use Rattle.kinds.specs.Clauses.{Clause, pair, pairsIn, pairs, neg}
 use Rattle.kinds.specs.Held.{Held}
-use Rattle.calls.specs.Adding.{pairPushed, addedPair, addedBinary}
+use Rattle.calls.specs.Adding.{pairPushed, addedPair}
 use Rattle.account.specs.Weights.{total, Blind, entry, Chained}
 use Rattle.account.proofs.Chains.{total-append}
 use Rattle.account.proofs.Moves.{Moves, all-split, quiet}

@@ -1,22 +1,22 @@
 -- Reducing: locals are struck, each once; mids are moved. Assumes nothing.
 use mathlib.Core.Path.{_≡_, refl, sym, ap, _∙_, subst}
-use mathlib.Core.Bool.{Bool, true, false, cond, not, _&&_, _||_, true≢false}
-use mathlib.Core.Logic.{⊎-elim, _⊎_, inl, inr}
-use mathlib.Core.List.{List, [], _∷_, _++_}
+use mathlib.Core.Bool.{Bool, true, false, cond, not, _||_, true≢false}
+use mathlib.Core.Logic.{⊎-elim, _⊎_}
+use mathlib.Core.List.{List, [], _∷_}
 use Prim.Native.Nat.{ℕ, zero, suc, _+_, _-_, _≤_, _<_}
 use native.Mathlib.Omega.{arith}
 use native.Mathlib.Decide.{ℕ-discrete}
-use lib.ListN.{length, set}
-use lib.Dec.{eqb, leb}
+use lib.ListN.{length}
+use lib.Dec.{leb}
 use lib.Seq.{getD-set-other}
-use borrow.Author.Tests.{eqb-true, eqb-false, eq-eqb, ne-eqb, not-true, not-false}
+use borrow.Author.Tests.{eqb-true, ne-eqb, not-false}
 use Rattle.laws.specs.Fold.{foldList, anyBelow}
 use Rattle.laws.specs.Lists.{at, listAt, elem, snoc, sortBy}
 use Rattle.laws.specs.Counts.{count, is}
-use Rattle.laws.proofs.Folds.{and-left, and-right, and-both, any-find}
+use Rattle.laws.proofs.Folds.{and-left, and-right, any-find}
 use Rattle.laws.proofs.Sorting.{is-same, is-other, count-cons, count-nil, count-append, index-of, count-sort}
 use Rattle.laws.proofs.Writing.{elem-index}
-use Rattle.kinds.specs.Clauses.{Clause, headAt, tierAt, litsAt, deletedAt, originalAt, isLive}
+use Rattle.kinds.specs.Clauses.{Clause, headAt, tierAt, litsAt, deletedAt, originalAt}
 use Rattle.kinds.specs.Held.{Held, listIn}
 use Rattle.calls.specs.StorePasses.{liveAt, refAt, insideAt, staleOk}
 use Rattle.calls.specs.Adding.{deleted, struck, removed, strikeNoted}
@@ -24,7 +24,7 @@ use Rattle.calls.specs.Reducing.{stale, keptFirst, cleanedTier, tierEmptied, so
 use Rattle.calls.proofs.Readings.{Tier}
 use Rattle.account.specs.Weights.{Chained}
 use Rattle.account.proofs.Moves.{Moves, moves-trans}
-use Rattle.account.proofs.Heads.{elem-none, elem-here, elem-later, elem-cases, Alike, alike-refl, Unmoved, unmoved-refl, unmoved-trans, unmoved-chained, unmoved-moves}
+use Rattle.account.proofs.Heads.{elem-none, elem-here, elem-later, elem-cases, alike-refl, Unmoved, unmoved-refl, unmoved-trans, unmoved-chained, unmoved-moves}
 use Rattle.account.proofs.Striking.{strikes-redundant, redundant-reason, struck-moves}
 use Rattle.account.proofs.Tiers.{mid-unmoved}
 

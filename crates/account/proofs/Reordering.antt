@@ -1,13 +1,13 @@
 -- "others may reorder literals inside a held clause": under a weight that ignores order nothing changes. Assumes nothing.
-use mathlib.Core.Path.{_≡_, refl, sym, ap, _∙_, subst}
-use mathlib.Core.Bool.{Bool, true, false}
-use mathlib.Core.List.{List, [], _∷_, List·Permᴰ}
-use Prim.Native.Nat.{ℕ, _+_, _≤_}
+use mathlib.Core.Path.{_≡_, refl, sym, _∙_, subst}
+use mathlib.Core.Bool.{true, false}
+use mathlib.Core.List.{List, [], List·Permᴰ}
+use Prim.Native.Nat.{ℕ, _+_}
 use native.Mathlib.Omega.{arith}
 use native.Mathlib.Nat.{add-zero}
 use lib.ListN.{length}
 use lib.Seq.{sets, length-sets}
-use Rattle.laws.specs.Lists.{at, elem, readN}
+use Rattle.laws.specs.Lists.{elem, readN}
 use Rattle.laws.proofs.Writing.{sets-below, sets-above, readN-sets, readN-all, length-readN, perm-length}
 use Rattle.kinds.specs.Clauses.{Clause, headAt, lenAt, litsAt, endAt, deletedAt, originalAt}
 use Rattle.kinds.specs.Held.{Held, withWords}

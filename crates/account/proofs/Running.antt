@@ -1,10 +1,10 @@
 -- The accounts of every run are even, under every weight that ignores the order of literals. Assumes nothing.
 use mathlib.Core.Path.{_≡_, refl, sym, ap, _∙_, subst}
 use mathlib.Core.Bool.{Bool, true, false, cond, true≢false}
-use mathlib.Core.List.{List, [], _∷_, _++_, append-nil}
-use Prim.Native.Nat.{ℕ, zero, suc, _+_, _*_, _/_, _≤_}
+use mathlib.Core.List.{List, [], _∷_, _++_}
+use Prim.Native.Nat.{ℕ, suc, _+_}
 use native.Mathlib.Omega.{arith}
-use lib.ListN.{length, take, drop, replicate}
+use lib.ListN.{length, drop}
 use lib.Dec.{eqb}
 use lib.Ieee.{Float}
 use lib.Seq.{sets}
@@ -14,12 +14,12 @@ use Rattle.laws.proofs.Folds.{and-left, and-right}
 use Rattle.kinds.specs.Clauses.{Clause, pairsIn, pairs, longs, isLive}
 use Rattle.kinds.specs.Lines.{Line, flat, ofKind}
 use Rattle.kinds.specs.Lent.{Lent, Host, Parts, roomOf, withWordBuffer, withHostSide}
-use Rattle.kinds.specs.Held.{Held, withWords}
-use Rattle.kinds.specs.Layout.{rowsOf, side, view, lay, layState}
-use Rattle.demands.specs.Runs.{Past, noPast, allHeld, remembered, after, Reordered, Formed, Run, begin, call, others, host}
+use Rattle.kinds.specs.Held.{Held}
+use Rattle.kinds.specs.Layout.{rowsOf, view, lay, layState}
+use Rattle.demands.specs.Runs.{Past, noPast, allHeld, remembered, after, Reordered, Run, begin, call, others, host}
 use Rattle.calls.specs.Call.{Command, addClause, setTier, delete, addBinary, implied, literals, assess, bump, decay, setDecay, reduceLocals, reduceMids, collect, proveUnits, unitSimplify, emptyRecord, viewFields, viewLiteral, Call, start, on, parts}
 use Rattle.calls.specs.Adding.{zeros, zerosEach, started, recordEmptied}
-use Rattle.calls.specs.Outcome.{Outcome, step, answer, number, startNumber, done, startDone, outcome, accepted, refused, nothing}
+use Rattle.calls.specs.Outcome.{Outcome, step, number, startNumber, done, startDone, outcome, accepted, refused, nothing}
 use Rattle.calls.proofs.Laws.{accepts}
 use Rattle.calls.proofs.Shapes.{Shape, step-shape}
 use Rattle.calls.proofs.After.{judged-zero, own-zero, room-true, rows-length, tiers-length, held-after}

@@ -1,20 +1,19 @@
 -- Simplifying one long clause: struck where it is satisfied, entered shorter and struck where literals are false, or kept. Assumes nothing.
-use mathlib.Core.Path.{_≡_, refl, sym, ap, _∙_, subst}
+use mathlib.Core.Path.{_≡_, refl, sym, _∙_, subst}
 use mathlib.Core.Bool.{Bool, true, false, cond, _||_}
 use mathlib.Core.List.{List, [], _∷_, _++_, append-nil, append-assoc}
-use Prim.Native.Nat.{ℕ, zero, suc, _+_, _≤_, _<_}
+use Prim.Native.Nat.{ℕ, suc, _+_, _≤_}
 use native.Mathlib.Omega.{arith}
 use native.Mathlib.Nat.{add-zero}
 use lib.ListN.{length, length-set}
 use lib.Dec.{eqb}
 use lib.Seq.{sets, length-sets}
-use borrow.Author.Tests.{eqb-true, eqb-false}
+use borrow.Author.Tests.{eqb-true}
 use Rattle.laws.specs.Lists.{at, readN, snoc}
 use Rattle.laws.proofs.Writing.{sets-below, sets-above, sets-at, readN-sets, readN-tail, readN-all, length-readN}
-use Rattle.kinds.specs.Clauses.{Clause, clauseAt, pair, headAt, lenAt, litsAt, endAt, deletedAt, originalAt, longs, pairs, neg}
+use Rattle.kinds.specs.Clauses.{Clause, clauseAt, headAt, lenAt, litsAt, endAt, deletedAt, originalAt, longs, pairs}
 use Rattle.kinds.specs.Lines.{Line, line, lineWords, flat, ofKind, isEntry, isStrike, strikeKind, entryKind}
-use Rattle.kinds.specs.Held.{Held, withClauses, withWords}
-use Rattle.kinds.specs.declared.Verdict.{Verdict}
+use Rattle.kinds.specs.Held.{Held, withClauses}
 use Rattle.kinds.specs.declared.Verdict.the-variants.{Satisfied, Same, Shorter}
 use Rattle.demands.specs.Demands.{AllReasoned, none-struck, is-true, entered-before}
 use Rattle.calls.specs.Adding.{removed, strikeNoted, struck, pairPushed, addedPair}
@@ -27,7 +26,7 @@ use Rattle.account.proofs.Chains.{longs-append, update-pre, Only, chain
 use Rattle.account.proofs.Lines.{flat-one}
 use Rattle.account.proofs.Moves.{Moves, all-split}
 use Rattle.account.proofs.Pairs.{pushed-total}
-use Rattle.account.proofs.Striking.{marked, marked-only, marked-deleted, Strikes, strikes-satisfied}
+use Rattle.account.proofs.Striking.{marked, marked-only, marked-deleted, strikes-satisfied}
 use Rattle.account.proofs.Shortening.{Differ, length-unfalsified, left-differ, only-false, two-differ}
 
 -- what is held while the entries os are still to be looked at: `s .clauses` are those kept so far

@@ -1,16 +1,16 @@
 -- What is left of a clause when its false literals are left out. Assumes nothing.
-use mathlib.Core.Path.{_≡_, refl, sym, ap, _∙_, subst}
-use mathlib.Core.Bool.{Bool, true, false, cond, not, _||_, true≢false}
+use mathlib.Core.Path.{_≡_, refl, sym, _∙_, subst}
+use mathlib.Core.Bool.{Bool, true, false, cond, _||_, true≢false}
 use mathlib.Core.List.{List, [], _∷_}
-use Prim.Native.Nat.{ℕ, zero, suc, _+_, _-_, _*_, _/_, _%_, _≤_, _<_}
+use Prim.Native.Nat.{ℕ, zero, suc, _+_, _-_, _*_, _≤_, _<_}
 use native.Mathlib.Omega.{arith}
-use native.Mathlib.Nat.{add-zero, add-suc, suc-add}
+use native.Mathlib.Nat.{add-zero}
 use lib.ListN.{length}
 use lib.Dec.{eqb}
-use borrow.Author.Tests.{eqb-true, eqb-false, ne-eqb}
+use borrow.Author.Tests.{eqb-true}
 use Rattle.laws.specs.Lists.{at, readN, elem}
 use Rattle.laws.proofs.Writing.{elem-place, getD-readN, length-readN}
-use Rattle.kinds.specs.Clauses.{Clause, neg, varOf, lenAt, litsAt}
+use Rattle.kinds.specs.Clauses.{Clause, neg}
 use Rattle.kinds.specs.Held.{isFalse}
 use Rattle.demands.specs.Demands.{OnlyFalseOut}
 use Rattle.calls.specs.Simplifying.{unfalsified}

@@ -1,20 +1,19 @@
 -- `unit_simplify`: binary clauses cleaned, each removed pair told once, then every long clause. Assumes nothing.
 use mathlib.Core.Path.{_≡_, refl, sym, ap, _∙_, subst}
-use mathlib.Core.Bool.{Bool, true, false, cond, not, _&&_, _||_, true≢false}
-use mathlib.Core.Logic.{⊎-elim, _⊎_, inl, inr}
+use mathlib.Core.Bool.{Bool, true, false, cond, not, _&&_, true≢false}
+use mathlib.Core.Logic.{_⊎_, inl, inr}
 use mathlib.Core.List.{List, [], _∷_, _++_, append-nil}
-use Prim.Native.Nat.{ℕ, zero, suc, _+_, _-_, _*_, _/_, _%_, _≤_, _<_}
+use Prim.Native.Nat.{ℕ, suc, _+_, _-_, _≤_, _<_}
 use native.Mathlib.Omega.{arith}
-use native.Mathlib.Nat.{add-suc, suc-add, add-zero}
+use native.Mathlib.Nat.{add-zero}
 use lib.ListN.{length}
-use lib.Dec.{eqb, ltb}
+use lib.Dec.{ltb}
 use borrow.Author.Tests.{ltb-false}
 use Rattle.laws.specs.Fold.{foldList, one}
 use Rattle.laws.specs.Lists.{at, listAt}
-use Rattle.laws.proofs.Folds.{and-both}
 use Rattle.kinds.specs.Clauses.{Clause, clauseAt, pair, litsAt, deletedAt, longs, pairsIn, pairs, neg, varOf}
-use Rattle.kinds.specs.Lines.{Line, line, flat, ofKind, isEntry, isStrike}
-use Rattle.kinds.specs.Held.{Held, withClauses, isTrue, isOpen}
+use Rattle.kinds.specs.Lines.{Line, line, ofKind, isEntry, isStrike}
+use Rattle.kinds.specs.Held.{Held, withClauses, isOpen}
 use Rattle.demands.specs.Runs.{allHeld}
 use Rattle.demands.specs.Demands.{AllReasoned, is-true}
 use Rattle.calls.specs.Simplifying.{staysIn, rowCleaned, rowsCleaned, rowStrikes, rowsStrikes, binariesCleaned, anyTrue, clauseDone, simplified}
@@ -26,7 +25,7 @@ use Rattle.account.proofs.Moves.{Moves, all-split, quiet, moves-trans, 
 use Rattle.account.proofs.Pairs.{row-cons, rows-cons}
 use Rattle.account.proofs.Shortening.{Differ, AllDiffer}
 use Rattle.account.proofs.Opening.{open-append, cleaned-open, pairs-open}
-use Rattle.account.proofs.Settling.{seen, Settled, one-settled}
+use Rattle.account.proofs.Settling.{seen, one-settled}
 
 -- ---- the accounts of a row
 

@@ -1,18 +1,17 @@
 -- A listed clause struck: one clause less, and one line more. Assumes nothing.
-use mathlib.Core.Path.{_≡_, refl, sym, ap, _∙_}
-use mathlib.Core.Bool.{Bool, true, false, cond, true≢false}
+use mathlib.Core.Path.{_≡_, refl, sym}
+use mathlib.Core.Bool.{Bool, true, false, true≢false}
 use mathlib.Core.List.{List, [], _∷_}
-use Prim.Native.Nat.{ℕ, _+_, _*_, _/_, _%_, _≤_, _<_}
+use Prim.Native.Nat.{ℕ, _+_, _≤_, _<_}
 use native.Mathlib.Omega.{arith}
 use lib.ListN.{length, length-set}
-use lib.Dec.{eqb}
 use lib.Seq.{getD-set-same, getD-set-other}
 use borrow.Author.Tests.{eq-eqb}
 use Rattle.laws.specs.Lists.{at, elem}
-use Rattle.laws.proofs.Writing.{At, elem-at}
+use Rattle.laws.proofs.Writing.{elem-at}
 use Rattle.kinds.specs.Header.{deletedOf, withDeleted}
-use Rattle.kinds.specs.Clauses.{Clause, headAt, lenAt, litsAt, endAt, deletedAt, originalAt, changeHead, longs, pairs}
-use Rattle.kinds.specs.Lines.{Line, line, flat, ofKind, isEntry, isStrike, strikeKind}
+use Rattle.kinds.specs.Clauses.{Clause, headAt, lenAt, litsAt, endAt, deletedAt, originalAt, changeHead, longs}
+use Rattle.kinds.specs.Lines.{Line, line, ofKind, isEntry, isStrike, strikeKind}
 use Rattle.kinds.specs.Held.{Held}
 use Rattle.demands.specs.Demands.{AllReasoned, Reasoned, none-struck}
 use Rattle.calls.specs.Adding.{removed, strikeNoted, struck}

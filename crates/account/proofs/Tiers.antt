@@ -1,19 +1,19 @@
 -- Tiers, glue and the active flag: changes of word 1 that keep the deleted bit and the class. Assumes nothing.
 use mathlib.Core.Path.{_≡_, refl, sym, ap, _∙_}
-use mathlib.Core.Bool.{Bool, true, false, cond, not, _&&_, _||_, true≢false}
-use mathlib.Core.List.{List, [], _∷_}
-use Prim.Native.Nat.{ℕ, zero, suc, _+_, _*_, _/_, _%_, _≤_, _<_}
+use mathlib.Core.Bool.{Bool, true, false, cond}
+use mathlib.Core.List.{List}
+use Prim.Native.Nat.{ℕ, _<_}
 use native.Mathlib.Omega.{arith}
-use lib.Dec.{eqb, leb, ltb}
+use lib.Dec.{eqb, leb}
 use Rattle.laws.specs.Lists.{elem}
 use Rattle.kinds.specs.Header.{tierOf, deletedOf, glueOf, withTier, withActive, withGlue}
-use Rattle.kinds.specs.Clauses.{headAt, tierAt, deletedAt, originalAt, changeHead, activeAt}
-use Rattle.kinds.specs.Held.{Held, withWords}
+use Rattle.kinds.specs.Clauses.{headAt, tierAt, originalAt, changeHead, activeAt}
+use Rattle.kinds.specs.Held.{Held}
 use Rattle.calls.specs.Adding.{movedTo, tierSet}
 use Rattle.calls.specs.Bumping.{tierFor, activated, glueStored}
 use Rattle.calls.specs.Reducing.{midKept, midDone}
 use Rattle.account.specs.Weights.{Chained}
-use Rattle.account.proofs.Heads.{Alike, head-alike, Unmoved, unmoved-refl, unmoved-chained}
+use Rattle.account.proofs.Heads.{Alike, head-alike, Unmoved, unmoved-refl}
 
 -- ---- the fields that stay
 

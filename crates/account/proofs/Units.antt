@@ -1,13 +1,13 @@
 -- `prove_units` writes lines of kind 1 alone, and holds the same clauses. Assumes nothing.
-use mathlib.Core.Path.{_≡_, refl}
+use mathlib.Core.Path.{refl}
 use mathlib.Core.Bool.{Bool, true, false, cond}
 use mathlib.Core.List.{List, [], _∷_}
-use Prim.Native.Nat.{ℕ, _+_}
+use Prim.Native.Nat.{ℕ}
 use native.Mathlib.Omega.{arith}
 use lib.Dec.{eqb}
 use Rattle.laws.specs.Fold.{foldList}
 use Rattle.kinds.specs.Clauses.{Clause}
-use Rattle.kinds.specs.Lines.{Line, line, ofKind, isEntry, isStrike}
+use Rattle.kinds.specs.Lines.{line, ofKind, isEntry, isStrike}
 use Rattle.kinds.specs.Held.{Held, noted, kindOf}
 use Rattle.demands.specs.Runs.{allHeld}
 use Rattle.demands.specs.Demands.{AllReasoned, none-struck}

@@ -7,7 +7,7 @@ use native.Mathlib.Omega.{arith}
 use native.Mathlib.Nat.{add-suc, suc-add, add-zero}
 use lib.ListN.{length, getD, set, length-set}
 use lib.Dec.{eqb}
-use lib.Seq.{getD-set-same, getD-set-other, sets, getD-append-add}
+use lib.Seq.{getD-set-same, getD-set-other, sets}
 use borrow.Author.Tests.{eqb-true, eq-eqb}
 use Rattle.laws.specs.Lists.{readN, elem}
 
