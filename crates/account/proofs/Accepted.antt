@@ -6,11 +6,11 @@ use Prim.Native.Nat.{ℕ, suc, _+_, _-_, _*_, _^_, _≤_, _<_}
 use native.Mathlib.Omega.{arith}
 use lib.ListN.{length}
 use lib.Dec.{eqb, leb, ltb}
-use borrow.Author.Tests.{leb-true, ltb-false, eqb-true, not-true}
+use borrow.Author.Tests.{leb-true, ltb-false, eqb-true, not-true, not-false}
 use Rattle.laws.specs.Fold.{anyBelow}
 use Rattle.laws.specs.Lists.{at, listAt, elem}
-use Rattle.laws.proofs.Folds.{and-left, and-right, any-at}
-use Rattle.laws.proofs.Writing.{elem-place}
+use Rattle.laws.proofs.Folds.{and-left, and-right}
+use Rattle.laws.proofs.Entries.{neither, none-at, elem-here, elem-later, elem-place}
 use Rattle.kinds.specs.Clauses.{clauseAt, endAt, litsAt, lenAt, glueAt, tierAt, deletedAt, originalAt, isLive, longs, neg, varOf}
 use Rattle.kinds.specs.Lent.{Lent, roomOf}
 use Rattle.kinds.specs.Held.{Held}
@@ -24,7 +24,6 @@ use Rattle.calls.specs.Outcome.{step, judged, refusedFor, hasRoom, number}
 use Rattle.calls.proofs.Readings.{lent-test, lits-read, LiveClause, Words, Tier, held-words, held-tier, words-pass, tiers-pass}
 use Rattle.calls.proofs.After.{sizes-true, judged-zero, own-zero, room-true, counts-length, rows-length}
 use Rattle.account.specs.Weights.{Chain, Chained}
-use Rattle.account.proofs.Heads.{elem-here, elem-later}
 use Rattle.account.proofs.Shortening.{Differ, AllDiffer, read-differ}
 use Rattle.account.proofs.Simplifying.{RowFine, pair-fine}
 
@@ -33,21 +32,6 @@ use Rattle.account.proofs.Simplifying.{RowFine, pair-fine}
 not-given : (b : Bool) (n m : ℕ) → (n ≡ 0 → ⊥) → cond b n m ≡ 0 → (b ≡ false) × (m ≡ 0)
 not-given true n m h e = absurd (h e)
 not-given false n m h e = (refl, e)
-
-neither : (a b : Bool) → a || b ≡ false → (a ≡ false) × (b ≡ false)
-neither true b e = absurd (true≢false e)
-neither false b e = (refl, e)
-
-passed : (b : Bool) → not b ≡ false → b ≡ true
-passed true e = refl
-passed false e = absurd (true≢false e)
-
-none-at : (f : ℕ → Bool) (n k : ℕ) → k < n → anyBelow f n ≡ false → f k ≡ false
-none-at f n k l e = go (f k) refl
-  where
-    go : (b : Bool) → f k ≡ b → b ≡ false
-    go true q = absurd (true≢false (sym (any-at f n k l q) ∙ e))
-    go false q = refl
 
 -- entries that rise, each ending by the next one's start
 chain-of : (hi : ℕ) (ws l : List ℕ) (lo : ℕ) → ((i : ℕ) → i < length l → endAt ws (at l i) ≤ hi) → ((i : ℕ) → i + 1 < length l → endAt ws (at l i) ≤ at l (i + 1)) → (0 < length l → lo ≤ at l 0) → lo ≤ hi → Chain lo hi ws l
@@ -61,7 +45,7 @@ chain-of hi ws (o ∷ l) lo ends next first low = (
 module _ (c : Command) (k : Lent) (z : number c k ≡ 0) where
   pub store-true : storePasses (parts c) (view k) ≡ true
   unfolding judged lowest
-  store-true = passed _ (not-given (not (storePasses (parts c) (view k))) 2 _ (λ e. omega arith) (not-given (not (sizesOk (parts c) k)) 1 _ (λ e. omega arith) (judged-zero c k z) .1) .0)
+  store-true = not-false _ (not-given (not (storePasses (parts c) (view k))) 2 _ (λ e. omega arith) (not-given (not (sizesOk (parts c) k)) 1 _ (λ e. omega arith) (judged-zero c k z) .1) .0)
 
   abbrev h : Held
   h = view k
@@ -102,7 +86,7 @@ module _ (c : Command) (k : Lent) (z : number c k ≡ 0) where
 
 pub live-listed : (h : Held) (o : ℕ) → notLive h o ≡ false → (elem o (h .clauses) ≡ true) × (deletedAt (h .words) o ≡ false)
 unfolding notLive isLive
-live-listed h o e = let q = passed _ e in (and-left _ _ q, not-true _ (and-right (elem o (h .clauses)) _ q))
+live-listed h o e = let q = not-false _ e in (and-left _ _ q, not-true _ (and-right (elem o (h .clauses)) _ q))
 
 -- ---- what each call needs
 
@@ -166,7 +150,7 @@ module _ (k : Lent) where
   pub pair-facts : (ls : List ℕ) → number (addBinary ls) k ≡ 0 → PairFacts ls
   unfolding refusedFor lowest own clauseWrong parts
   pair-facts ls z =
-      let a = passed _ (not-given (clauseWrong (v .vars) 2 2 ls) 4 0 (λ e. omega arith) (own-zero (addBinary ls) k z) .0) in
+      let a = not-false _ (not-given (clauseWrong (v .vars) 2 2 ls) 4 0 (λ e. omega arith) (own-zero (addBinary ls) k z) .0) in
       let b = and-right (leb 2 (length ls)) _ a in
       let l = leb-true 2 (length ls) (and-left _ _ a) in
       let r = lits-read ls (v .vars) 0 (length ls) (and-right (leb (length ls) 2) _ b) in

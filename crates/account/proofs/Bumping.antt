@@ -12,6 +12,7 @@ use lib.Seq.{getD-set-same, getD-set-other}
 use borrow.Author.Tests.{ltb-true, ne-eqb}
 use Rattle.laws.specs.Fold.{foldList}
 use Rattle.laws.specs.Lists.{at, elem}
+use Rattle.laws.proofs.Entries.{elem-here, elem-later, elem-cases}
 use Rattle.kinds.specs.Header.{withActive}
 use Rattle.kinds.specs.Clauses.{Clause, activityAt, headAt, endAt, glueAt, deletedAt, originalAt, clauseAt, undeleted, longs}
 use Rattle.kinds.specs.Floats.{limit, scaled}
@@ -22,7 +23,7 @@ use Rattle.calls.specs.Bumping.{scaledAt, rescaled, sumFor, activityRaised, act
 use Rattle.account.specs.Weights.{total, Chain, Chained}
 use Rattle.account.proofs.Chains.{chain-lower}
 use Rattle.account.proofs.Moves.{Moves, quiet, moves-trans}
-use Rattle.account.proofs.Heads.{elem-here, elem-later, elem-cases, chain-apart, chain-above, Alike, alike-longs, alike-chain, Unmoved, unmoved-refl, unmoved-trans, unmoved-chained, unmoved-moves}
+use Rattle.account.proofs.Heads.{chain-apart, chain-above, Alike, alike-longs, alike-chain, Unmoved, unmoved-refl, unmoved-trans, unmoved-chained, unmoved-moves}
 use Rattle.account.proofs.Tiers.{active-keeps-glue, tier-for-range, activated-unmoved, glue-unmoved, tier-unmoved}
 
 -- ---- words that differ at the listed offsets alone: activities

@@ -1,6 +1,6 @@
 -- Changes of headers alone (activity, active, glue, tiers): the same clauses are held. Assumes nothing.
 use mathlib.Core.Path.{_≡_, refl, sym, _∙_, subst}
-use mathlib.Core.Bool.{Bool, true, false, _||_, true≢false}
+use mathlib.Core.Bool.{true}
 use mathlib.Core.Logic.{⊎-elim, _⊎_, inl, inr}
 use mathlib.Core.List.{List, [], _∷_}
 use Prim.Native.Nat.{ℕ, _+_, _≤_, _<_}
@@ -9,10 +9,9 @@ use native.Mathlib.Decide.{ℕ-discrete}
 use lib.ListN.{length, length-set}
 use lib.Dec.{eqb}
 use lib.Seq.{getD-set-same, getD-set-other}
-use borrow.Author.Tests.{eqb-true, eq-eqb}
 use Rattle.laws.specs.Lists.{at, elem}
 use Rattle.laws.proofs.Writing.{readN-same}
-use Rattle.laws.proofs.Folds.{or-right}
+use Rattle.laws.proofs.Entries.{elem-none, elem-here, elem-later, elem-cases}
 use Rattle.kinds.specs.Header.{tierOf, deletedOf}
 use Rattle.kinds.specs.Clauses.{Clause, headAt, lenAt, litsAt, endAt, deletedAt, originalAt, changeHead, longs}
 use Rattle.kinds.specs.Held.{Held}
@@ -20,28 +19,6 @@ use Rattle.demands.specs.Runs.{allHeld}
 use Rattle.account.specs.Weights.{total, Chain, Chained}
 use Rattle.account.proofs.Chains.{chain-le}
 use Rattle.account.proofs.Moves.{Moves, quiet}
-
--- ---- entries of a list
-
-pub elem-none : (x : ℕ) → elem x [] ≡ true → ⊥
-unfolding elem
-elem-none x e = true≢false (sym e)
-
-pub elem-here : (o : ℕ) (os : List ℕ) → elem o (o ∷ os) ≡ true
-unfolding elem
-elem-here o os = rw (eq-eqb o o refl)
-
-pub elem-later : (x o : ℕ) (os : List ℕ) → elem x os ≡ true → elem x (o ∷ os) ≡ true
-unfolding elem
-elem-later x o os e = or-right (eqb x o) (elem x os) e
-
-pub elem-cases : (x o : ℕ) (os : List ℕ) → elem x (o ∷ os) ≡ true → (x ≡ o) ⊎ (elem x os ≡ true)
-unfolding elem
-elem-cases x o os e = go (eqb x o) refl e
-  where
-    go : (b : Bool) → eqb x o ≡ b → (b || elem x os) ≡ true → (x ≡ o) ⊎ (elem x os ≡ true)
-    go true p q = inl (eqb-true x o p)
-    go false p q = inr q
 
 -- ---- listed clauses are apart
 

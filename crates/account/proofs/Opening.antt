@@ -12,12 +12,12 @@ use lib.Dec.{ltb}
 use lib.Seq.{getD-set-same, getD-set-other, set-out}
 use Rattle.laws.specs.Lists.{listAt, elem, snoc, push}
 use Rattle.laws.proofs.Folds.{and-left, and-right, and-both}
+use Rattle.laws.proofs.Entries.{elem-none, elem-here, elem-later, elem-cases}
 use Rattle.kinds.specs.Clauses.{Clause, pair, neg, varOf, pairsIn, pairs}
 use Rattle.kinds.specs.Held.{isTrue, isOpen, isFalse}
 use Rattle.calls.specs.Adding.{pairPushed}
 use Rattle.calls.specs.Simplifying.{anyTrue, unfalsified, staysIn, rowCleaned, rowsCleaned}
 use Rattle.account.specs.Open.{OpenLits, AllOpen, RowsOpen}
-use Rattle.account.proofs.Heads.{elem-none, elem-here, elem-later, elem-cases}
 use Rattle.account.proofs.Shortening.{left-within, length-unfalsified}
 
 -- ---- literals

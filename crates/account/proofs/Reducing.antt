@@ -15,7 +15,7 @@ use Rattle.laws.specs.Lists.{at, listAt, elem, snoc, sortBy}
 use Rattle.laws.specs.Counts.{count, is}
 use Rattle.laws.proofs.Folds.{and-left, and-right, any-find}
 use Rattle.laws.proofs.Sorting.{is-same, is-other, count-cons, count-nil, count-append, index-of, count-sort}
-use Rattle.laws.proofs.Writing.{elem-index}
+use Rattle.laws.proofs.Entries.{neither, elem-here, elem-later, elem-index, elem-counted}
 use Rattle.kinds.specs.Clauses.{Clause, headAt, tierAt, litsAt, deletedAt, originalAt}
 use Rattle.kinds.specs.Held.{Held, listIn}
 use Rattle.calls.specs.StorePasses.{liveAt, refAt, insideAt, staleOk}
@@ -24,26 +24,9 @@ use Rattle.calls.specs.Reducing.{stale, keptFirst, cleanedTier, tierEmptied, so
 use Rattle.calls.proofs.Readings.{Tier}
 use Rattle.account.specs.Weights.{Chained}
 use Rattle.account.proofs.Moves.{Moves, moves-trans}
-use Rattle.account.proofs.Heads.{elem-none, elem-here, elem-later, elem-cases, alike-refl, Unmoved, unmoved-refl, unmoved-trans, unmoved-chained, unmoved-moves}
+use Rattle.account.proofs.Heads.{alike-refl, Unmoved, unmoved-refl, unmoved-trans, unmoved-chained, unmoved-moves}
 use Rattle.account.proofs.Striking.{strikes-redundant, redundant-reason, struck-moves}
 use Rattle.account.proofs.Tiers.{mid-unmoved}
-
--- ---- entries and counts
-
-elem-counted : (x : ℕ) (l : List ℕ) → elem x l ≡ true → 0 < count x l
-elem-counted x [] e = absurd (elem-none x e)
-elem-counted x (y ∷ l) e =
-    ⊎-elim
-    (λ q. omega (arith, count-cons x y l, is-same y x (sym q)))
-    (λ q. omega (arith, count-cons x y l, elem-counted x l q))
-    (elem-cases x y l e)
-
-elem-uncounted : (x : ℕ) (l : List ℕ) → count x l ≡ 0 → elem x l ≡ false
-elem-uncounted x l z = go (elem x l) refl
-  where
-    go : (b : Bool) → elem x l ≡ b → b ≡ false
-    go true q = absurd (let h = elem-counted x l q in omega arith)
-    go false q = refl
 
 -- ---- "Both drop stale and repeated entries, the first of equals staying."
 
@@ -116,10 +99,6 @@ module _ (h : Held) (t : ℕ) (above : 0 < t) (read : Tier (h .words) (h .used) 
   abbrev entries : List ℕ
   entries = listAt (h .tiers) t
 
-  unstale : (a b : Bool) → a || b ≡ false → (a ≡ false) × (b ≡ false)
-  unstale true b e = absurd (true≢false e)
-  unstale false b e = (refl, e)
-
   -- an entry that is not stale is a live clause's reference
   entry-listed : (v : ℕ) → 0 < count v entries → deletedAt (h .words) v ≡ false → elem v (h .clauses) ≡ true
   unfolding refAt
@@ -139,10 +118,10 @@ module _ (h : Held) (t : ℕ) (above : 0 < t) (read : Tier (h .words) (h .used) 
       let c = cleaned-tier t h in
       record {
         once = c .once;
-        listed = λ v k. entry-listed v (c .entered v k) (unstale (deletedAt (h .words) v) _ (c .fresh v k) .0);
-        live = λ v k. unstale (deletedAt (h .words) v) _ (c .fresh v k) .0;
+        listed = λ v k. entry-listed v (c .entered v k) (neither (deletedAt (h .words) v) _ (c .fresh v k) .0);
+        live = λ v k. neither (deletedAt (h .words) v) _ (c .fresh v k) .0;
         class = λ v k.
-            let e : tierAt (h .words) v ≡ t = eqb-true (tierAt (h .words) v) t (not-false _ (unstale (deletedAt (h .words) v) _ (c .fresh v k) .1)) in
+            let e : tierAt (h .words) v ≡ t = eqb-true (tierAt (h .words) v) t (not-false _ (neither (deletedAt (h .words) v) _ (c .fresh v k) .1)) in
             ne-eqb (tierAt (h .words) v) 0 (λ z. omega arith);
       }
 

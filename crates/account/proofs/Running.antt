@@ -10,6 +10,7 @@ use lib.Ieee.{Float}
 use lib.Seq.{sets}
 use borrow.Author.Tests.{eqb-true, not-true}
 use Rattle.laws.specs.Lists.{elem, lengths, fillEach}
+use Rattle.laws.proofs.Writing.{length-fillEach, length-lengths}
 use Rattle.laws.proofs.Folds.{and-left, and-right}
 use Rattle.kinds.specs.Clauses.{Clause, pairsIn, pairs, longs, isLive}
 use Rattle.kinds.specs.Lines.{Line, flat, ofKind}
@@ -32,18 +33,6 @@ use Rattle.account.proofs.Reordering.{reorder-moves}
 use Rattle.account.proofs.Stepping.{newIn, step-moves}
 
 -- ---- four lists and four used lengths, at every place of a run
-
-length-fillEach : (bs : List (List ℕ)) (ns : List ℕ) (ls : List (List ℕ)) → length (fillEach bs ns ls) ≡ length bs
-unfolding fillEach
-length-fillEach [] ns ls = refl
-length-fillEach (b ∷ bs) [] ls = refl
-length-fillEach (b ∷ bs) (n ∷ ns) [] = refl
-length-fillEach (b ∷ bs) (n ∷ ns) (l ∷ ls) = ap suc (length-fillEach bs ns ls)
-
-length-lengths : (ls : List (List ℕ)) → length (lengths ls) ≡ length ls
-unfolding lengths
-length-lengths [] = refl
-length-lengths (l ∷ ls) = ap suc (length-lengths ls)
 
 length-zerosEach : (ls : List (List ℕ)) → length (zerosEach ls) ≡ length ls
 unfolding zerosEach

@@ -11,6 +11,7 @@ use lib.Seq.{sets, length-sets}
 use borrow.Author.Tests.{eqb-true}
 use Rattle.laws.specs.Lists.{at, readN, snoc}
 use Rattle.laws.proofs.Writing.{sets-below, sets-above, sets-at, readN-sets, readN-tail, readN-all, length-readN}
+use Rattle.laws.proofs.Entries.{elem-here, elem-later}
 use Rattle.kinds.specs.Clauses.{Clause, clauseAt, headAt, lenAt, litsAt, endAt, deletedAt, originalAt, longs, pairs}
 use Rattle.kinds.specs.Lines.{Line, line, lineWords, flat, ofKind, isEntry, isStrike, strikeKind, entryKind}
 use Rattle.kinds.specs.Held.{Held, withClauses}
@@ -20,7 +21,6 @@ use Rattle.calls.specs.Adding.{removed, strikeNoted, struck, pairPushed, addedP
 use Rattle.calls.specs.Simplifying.{anyTrue, unfalsified, verdictOf, shorterNoted, shortened, kept, shorterDone, verdictDone, clauseDone}
 use Rattle.account.specs.Open.{OpenLits, AllOpen, RowsOpen}
 use Rattle.account.specs.Weights.{total, weigh, Blind, entered, struckIn, Chained}
-use Rattle.account.proofs.Heads.{elem-here, elem-later}
 use Rattle.account.proofs.Opening.{left-open, left-whole, open-append, pushed-open}
 use Rattle.account.proofs.Chains.{longs-append, update-pre, Only, chain-le, chain-post, weigh-live, weigh-gone, update-total, update-chain, update-post, drop-total, drop-chain}
 use Rattle.account.proofs.Lines.{flat-one}

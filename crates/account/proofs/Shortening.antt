@@ -9,13 +9,13 @@ use lib.ListN.{length}
 use lib.Dec.{eqb}
 use borrow.Author.Tests.{eqb-true}
 use Rattle.laws.specs.Lists.{at, readN, elem}
-use Rattle.laws.proofs.Writing.{elem-place, getD-readN, length-readN}
+use Rattle.laws.proofs.Writing.{getD-readN, length-readN}
+use Rattle.laws.proofs.Entries.{elem-here, elem-place}
 use Rattle.kinds.specs.Clauses.{Clause, neg}
 use Rattle.kinds.specs.Held.{isFalse}
 use Rattle.demands.specs.Demands.{OnlyFalseOut}
 use Rattle.calls.specs.Simplifying.{unfalsified}
 use Rattle.calls.proofs.Readings.{Lits}
-use Rattle.account.proofs.Heads.{elem-here}
 
 -- different literals, whose negations are below n
 abbrev pub Differ : ℕ → List ℕ → Type 0

@@ -9,6 +9,7 @@ use lib.Dec.{eqb}
 use borrow.Author.Tests.{not-true}
 use Rattle.laws.specs.Lists.{at, elem}
 use Rattle.laws.proofs.Folds.{and-left, and-right}
+use Rattle.laws.proofs.Entries.{elem-none, elem-cases}
 use Rattle.kinds.specs.Clauses.{Clause, clauseAt, pair, litsAt, deletedAt, isLive, longs, pairs}
 use Rattle.kinds.specs.Lent.{Lent}
 use Rattle.kinds.specs.Held.{Held, isTrue, isOpen, isFalse}
@@ -22,7 +23,6 @@ use Rattle.account.specs.Four.{Four}
 use Rattle.account.specs.Open.{OpenLits, AllOpen}
 use Rattle.account.specs.Weights.{total}
 use Rattle.account.proofs.Moves.{all-split}
-use Rattle.account.proofs.Heads.{elem-none, elem-cases}
 use Rattle.account.proofs.Pairs.{pushed-total}
 use Rattle.account.proofs.Adding.{long-longs}
 use Rattle.account.proofs.Simplifying.{simplified-open}

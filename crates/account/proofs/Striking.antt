@@ -8,7 +8,7 @@ use lib.ListN.{length, length-set}
 use lib.Seq.{getD-set-same, getD-set-other}
 use borrow.Author.Tests.{eq-eqb}
 use Rattle.laws.specs.Lists.{at, elem}
-use Rattle.laws.proofs.Writing.{elem-at}
+use Rattle.laws.proofs.Entries.{elem-at}
 use Rattle.kinds.specs.Header.{deletedOf, withDeleted}
 use Rattle.kinds.specs.Clauses.{Clause, headAt, lenAt, litsAt, endAt, deletedAt, originalAt, changeHead, longs}
 use Rattle.kinds.specs.Lines.{Line, line, ofKind, isEntry, isStrike, strikeKind}

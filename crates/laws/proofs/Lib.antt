@@ -2,3 +2,4 @@ pub mod Choices
 pub mod Folds
 pub mod Sorting
 pub mod Writing
+pub mod Entries

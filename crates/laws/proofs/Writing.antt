@@ -1,15 +1,12 @@
 -- Numbers written over others in a list, and numbers read back from it. Assumes nothing.
-use mathlib.Core.Path.{_≡_, refl, sym, ap, ap₂, _∙_}
-use mathlib.Core.Bool.{Bool, true, false, _||_, true≢false}
-use mathlib.Core.List.{List, [], _∷_, _++_, List·Permᴰ, List·Permᴰ·swap, List·Permᴰ·cons, List·Permᴰ·trans, List·Permᴰ·nil}
+use mathlib.Core.Path.{_≡_, refl, ap, ap₂, _∙_}
+use mathlib.Core.List.{List, [], _∷_, List·Permᴰ, List·Permᴰ·swap, List·Permᴰ·cons, List·Permᴰ·trans, List·Permᴰ·nil}
 use Prim.Native.Nat.{ℕ, zero, suc, _+_, _≤_, _<_}
 use native.Mathlib.Omega.{arith}
 use native.Mathlib.Nat.{add-suc, suc-add, add-zero}
 use lib.ListN.{length, getD, set, length-set}
-use lib.Dec.{eqb}
 use lib.Seq.{getD-set-same, getD-set-other, sets}
-use borrow.Author.Tests.{eqb-true, eq-eqb}
-use Rattle.laws.specs.Lists.{readN, elem}
+use Rattle.laws.specs.Lists.{readN, lengths, fillEach}
 
 -- ---- writing
 
@@ -77,7 +74,7 @@ readN-moved p o zero vs ws m = refl
 readN-moved p o (suc n) vs ws m = ap₂ _∷_ (simp add-zero at (m 0 (omega arith)))
     (readN-moved (suc p) (suc o) n vs ws (λ i h. simp (suc-add) (simp add-suc at (m (suc i) (omega arith)))))
 
--- ---- entries
+-- ---- lengths
 
 pub perm-length : {c d : List ℕ} → List·Permᴰ c d → length c ≡ length d
 perm-length List·Permᴰ·nil = refl
@@ -85,36 +82,14 @@ perm-length (List·Permᴰ·cons e d) = ap suc (perm-length d)
 perm-length (List·Permᴰ·swap e f) = refl
 perm-length (List·Permᴰ·trans d e) = perm-length d ∙ perm-length e
 
--- where an entry stands
-pub record At (o : ℕ) (os : List ℕ) : Type 0 where
-  pub pre : List ℕ
-  pub post : List ℕ
-  pub split : os ≡ pre ++ o ∷ post
+pub length-fillEach : (bs : List (List ℕ)) (ns : List ℕ) (ls : List (List ℕ)) → length (fillEach bs ns ls) ≡ length bs
+unfolding fillEach
+length-fillEach [] ns ls = refl
+length-fillEach (b ∷ bs) [] ls = refl
+length-fillEach (b ∷ bs) (n ∷ ns) [] = refl
+length-fillEach (b ∷ bs) (n ∷ ns) (l ∷ ls) = ap suc (length-fillEach bs ns ls)
 
-pub elem-at : (o : ℕ) (os : List ℕ) → elem o os ≡ true → At o os
-unfolding elem
-elem-at o [] h = absurd (true≢false (sym h))
-elem-at o (x ∷ os) h = go (eqb o x) refl h (elem-at o os)
-  where
-    go : (b : Bool) → eqb o x ≡ b → (b || elem o os) ≡ true → (elem o os ≡ true → At o os) → At o (x ∷ os)
-    go true e k r = record { pre = []; post = os; split = ap (λ (y : ℕ). y ∷ os) (sym (eqb-true o x e)) }
-    go false e k r = record { pre = x ∷ r k .pre; post = r k .post; split = ap (λ (l : List ℕ). x ∷ l) (r k .split) }
-
-pub elem-index : (l : List ℕ) (i : ℕ) → i < length l → elem (getD l i 0) l ≡ true
-unfolding elem
-elem-index [] i h = absurd (omega arith)
-elem-index (x ∷ l) zero h = rw (eq-eqb x x refl)
-elem-index (x ∷ l) (suc i) h = go (eqb (getD l i 0) x) (elem-index l i (omega arith))
-  where
-    go : (b : Bool) → elem (getD l i 0) l ≡ true → (b || elem (getD l i 0) l) ≡ true
-    go true e = refl
-    go false e = e
-
-pub elem-place : (x : ℕ) (l : List ℕ) → elem x l ≡ true → (i : ℕ) × (i < length l) × (getD l i 0 ≡ x)
-unfolding elem
-elem-place x [] h = absurd (true≢false (sym h))
-elem-place x (y ∷ l) h = go (eqb x y) refl h (elem-place x l)
-  where
-    go : (b : Bool) → eqb x y ≡ b → (b || elem x l) ≡ true → (elem x l ≡ true → (i : ℕ) × (i < length l) × (getD l i 0 ≡ x)) → (i : ℕ) × (i < length (y ∷ l)) × (getD (y ∷ l) i 0 ≡ x)
-    go true e k r = (zero, omega arith, sym (eqb-true x y e))
-    go false e k r = let q = r k in (suc (q .0), omega (arith, q .1), q .2)
+pub length-lengths : (ls : List (List ℕ)) → length (lengths ls) ≡ length ls
+unfolding lengths
+length-lengths [] = refl
+length-lengths (l ∷ ls) = ap suc (length-lengths ls)
