@@ -6,6 +6,7 @@ use Prim.Native.Nat.{ℕ, _+_}
 use native.Mathlib.Omega.{arith}
 use lib.Dec.{eqb}
 use borrow.Author.Tests.{eqb-true}
+use Rattle.laws.specs.Lists.{at}
 use Rattle.kinds.specs.Clauses.{Clause}
 use Rattle.kinds.specs.Lines.{line, flat, lines, ofKind, isEntry, isStrike}
 use Rattle.kinds.specs.Lent.{Lent}
@@ -15,10 +16,11 @@ use Rattle.calls.specs.Call.{Command, emptyRecord}
 use Rattle.calls.specs.Outcome.{number}
 use Rattle.demands.specs.Sets.{ever}
 use Rattle.demands.specs.Runs.{Past, Run, allHeld, wholeRecord}
-use Rattle.demands.specs.Demands.{Balanced, BalancedIn, AllReasoned, Written, Demand3}
+use Rattle.demands.specs.Demands.{Balanced, BalancedIn, AllReasoned, Written, Demand3, wholePasses}
 use Rattle.account.specs.Weights.{total, Blind}
 use Rattle.account.specs.Originals.{originals}
 use Rattle.account.proofs.Lines.{lines-whole, entered-append, struck-append}
+use Rattle.account.proofs.Counting.{originals-counted}
 use Rattle.account.proofs.Stepping.{step-moves}
 use Rattle.account.proofs.Running.{run-sound, view-stepped, kept-refused}
 use Rattle.account.proofs.AsSets.{asSet, times-total, blind-set, asOriginal, originals-total, blind-original}
@@ -43,6 +45,11 @@ balanced {k} {p} r c = omega (arith, balanced-apart true r c, balanced-apart fal
 -- how many originals there are: none is lost, none invented
 pub originals-exact : {k : Lent} {p : Past} → Run k p → originals (p .added) + originals (ofKind isEntry (lines (wholeRecord k p))) ≡ originals (allHeld (view k)) + originals (ofKind isStrike (lines (wholeRecord k p)))
 originals-exact {k} {p} r = simp originals-total (even-read asOriginal blind-original r)
+
+-- and where the store passes, the state's counts of Irred and of binary clauses say it
+pub counts-exact : {k : Lent} {p : Past} → Run k p → wholePasses k ≡ true
+    → originals (p .added) + originals (ofKind isEntry (lines (wholeRecord k p))) ≡ at (k .state .counts) 0 + k .state .binary + originals (ofKind isStrike (lines (wholeRecord k p)))
+counts-exact {k} {p} r w = omega (arith, originals-exact r, originals-counted k w)
 
 -- what a command writes, refused or accepted
 pub written : {k : Lent} {p : Past} → Run k p → (c : Command) → (c ≡ emptyRecord → ⊥) → Written c k

@@ -19,5 +19,6 @@ pub mod Accepted
 pub mod Stepping
 pub mod Running
 pub mod AsSets
+pub mod Counting
 pub mod Demand3
 pub mod ShutOut

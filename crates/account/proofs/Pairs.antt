@@ -37,7 +37,7 @@ push-total w k r x [] h = absurd (omega arith)
 push-total w k zero x (row ∷ rows) h = rw (rows-cons, rows-cons, row-snoc, add-zero) (omega arith)
 push-total w k (suc r) x (row ∷ rows) h = rw (rows-cons, rows-cons, push-total w (suc k) r x rows (omega arith), add-suc, suc-add) (omega arith)
 
-neg-neg : (a : ℕ) → neg (neg a) ≡ a
+pub neg-neg : (a : ℕ) → neg (neg a) ≡ a
 neg-neg a = omega arith
 
 module _ (w : Clause → ℕ) (blind : Blind w) (a b : ℕ) (ne : a ≡ b → ⊥) where

@@ -3,3 +3,4 @@ pub mod Folds
 pub mod Sorting
 pub mod Writing
 pub mod Entries
+pub mod Sums
