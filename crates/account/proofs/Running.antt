@@ -14,16 +14,16 @@ use Rattle.laws.proofs.Writing.{length-fillEach, length-lengths}
 use Rattle.laws.proofs.Folds.{and-left, and-right}
 use Rattle.kinds.specs.Clauses.{Clause, pairsIn, pairs, longs, isLive}
 use Rattle.kinds.specs.Lines.{Line, flat, ofKind}
-use Rattle.kinds.specs.Lent.{Lent, Host, Parts, roomOf, withWordBuffer, withHostSide}
+use Rattle.kinds.specs.declared.State.{State}
+use Rattle.kinds.specs.Lent.{Lent, Host, lent, Parts, withWordBuffer, withHostSide}
 use Rattle.kinds.specs.Held.{Held}
 use Rattle.kinds.specs.Layout.{rowsOf, view, lay, layState}
-use Rattle.demands.specs.Runs.{Past, noPast, allHeld, remembered, after, Reordered, Run, begin, call, others, host}
+use Rattle.demands.specs.Runs.{Past, noPast, allHeld, remembered, after, Reordered, Formed, Run, begin, call, others, host}
 use Rattle.calls.specs.Call.{Command, addClause, setTier, delete, addBinary, implied, literals, assess, bump, decay, setDecay, reduceLocals, reduceMids, collect, proveUnits, unitSimplify, emptyRecord, viewFields, viewLiteral, Call, start, on, parts}
 use Rattle.calls.specs.Adding.{zeros, zerosEach, started, recordEmptied}
 use Rattle.calls.specs.Outcome.{Outcome, step, number, startNumber, done, startDone, outcome, accepted, refused, nothing}
 use Rattle.calls.proofs.Laws.{accepts}
-use Rattle.calls.proofs.Shapes.{Shape, step-shape}
-use Rattle.calls.proofs.After.{judged-zero, own-zero, room-true, rows-length, tiers-length, held-after}
+use Rattle.calls.proofs.After.{judged-zero, own-zero, room-true, shape, held-after}
 use Rattle.account.specs.Four.{Four}
 use Rattle.account.specs.Weights.{total, Blind, entered, struckIn, Chained}
 use Rattle.account.proofs.Chains.{total-append}
@@ -33,6 +33,10 @@ use Rattle.account.proofs.Reordering.{reorder-moves}
 use Rattle.account.proofs.Stepping.{newIn, step-moves}
 
 -- ---- four lists and four used lengths, at every place of a run
+
+-- every call's parameters, put together, have four lists: what `begin` asks holds of all that is lent
+pub lent-formed : (s : State) (words clauses irred core mid local rows counts rec : List ℕ) (t : Host) → Formed (lent s words clauses irred core mid local rows counts rec t)
+lent-formed s words clauses irred core mid local rows counts rec t = record { four = refl }
 
 length-zerosEach : (ls : List (List ℕ)) → length (zerosEach ls) ≡ length ls
 unfolding zerosEach
@@ -57,16 +61,8 @@ module _ (c : Command) (k : Lent) (f : Four k) (z : number c k ≡ 0) where
   pub view-stepped : view (done c k .then) ≡ step c (view k)
   view-stepped = held-after c k (f .lists) (f .used) z
 
-  shape : Shape (k .state .vars) (length (k .counts)) (step c (view k))
-  unfolding view
-  shape = step-shape (k .state .vars) (length (k .counts)) c (view k) (record {
-    vars = refl;
-    four = tiers-length (k .state .tiers) (k .tiers) (f .used ∙ sym (f .lists)) ∙ f .used;
-    rows = rows-length (roomOf (k .state .vars) (k .rows)) (k .counts) (k .rows);
-  })
-
   stepped-four : Four (done c k .then)
-  stepped-four = subst Four (sym stepped) (laid-four (parts c) k (step c (view k)) (shape .four) f)
+  stepped-four = subst Four (sym stepped) (laid-four (parts c) k (step c (view k)) (shape c k (f .lists) (f .used) z .four) f)
 
 -- a refused command changes nothing
 pub kept-refused : (c : Command) (k : Lent) → eqb (number c k) 0 ≡ false → done c k .then ≡ k
@@ -84,7 +80,7 @@ pub record Sound (w : Clause → ℕ) (k : Lent) (p : Past) : Type 0 where
   pub rec-is : view k .rec ≡ flat now
   pub even : total w (p .added) + (entered w past + entered w now) ≡ total w (allHeld (view k)) + (struckIn w past + struckIn w now)
 
--- a command that empties the record is the one
+-- whether a command empties the record
 empties : Command → Bool
 empties (addClause t g ls) = false
 empties (setTier o t) = false
