@@ -68,22 +68,6 @@ module _ (ws : List ℕ) where
       go true r = chain-lower (endAt ws o) lo hi ws (undeleted ws os) (omega arith) r
       go false r = (h, r)
 
-  undeleted-within : (os : List ℕ) (x : ℕ) → elem x (undeleted ws os) ≡ true → elem x os ≡ true
-  unfolding undeleted
-  undeleted-within [] x e = e
-  undeleted-within (o ∷ os) x e = go (deletedAt ws o) e (undeleted-within os x)
-    where
-      go : (b : Bool) → elem x (cond b (undeleted ws os) (o ∷ undeleted ws os)) ≡ true → (elem x (undeleted ws os) ≡ true → elem x os ≡ true) → elem x (o ∷ os) ≡ true
-      go true q r = elem-later x o os (r q)
-      go false q r = ⊎-elim (λ z. subst (λ (y : ℕ). elem y (o ∷ os) ≡ true) (sym z) (elem-here o os)) (λ z. elem-later x o os (r z)) (elem-cases x o (undeleted ws os) q)
-
-  undeleted-off : (os : List ℕ) (x : ℕ) → elem x os ≡ false → elem x (undeleted ws os) ≡ false
-  undeleted-off os x e = go (elem x (undeleted ws os)) refl
-    where
-      go : (b : Bool) → elem x (undeleted ws os) ≡ b → b ≡ false
-      go true q = absurd (true≢false (sym (undeleted-within os x q) ∙ e))
-      go false q = refl
-
   pub undeleted-keeps : (os : List ℕ) (x : ℕ) → elem x os ≡ true → deletedAt ws x ≡ false → elem x (undeleted ws os) ≡ true
   unfolding undeleted
   undeleted-keeps [] x e d = e

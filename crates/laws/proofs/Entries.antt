@@ -92,10 +92,3 @@ elem-counted x (y ∷ l) e =
     (λ q. omega (arith, count-cons x y l, is-same y x (sym q)))
     (λ q. omega (arith, count-cons x y l, elem-counted x l q))
     (elem-cases x y l e)
-
-pub elem-uncounted : (x : ℕ) (l : List ℕ) → count x l ≡ 0 → elem x l ≡ false
-elem-uncounted x l z = go (elem x l) refl
-  where
-    go : (b : Bool) → elem x l ≡ b → b ≡ false
-    go true q = absurd (let h = elem-counted x l q in omega arith)
-    go false q = refl
