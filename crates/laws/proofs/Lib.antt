@@ -3,3 +3,6 @@ pub mod Fills
 pub mod Folds
 pub mod Reading
 pub mod Sorting
+pub mod Writing
+pub mod Entries
+pub mod Sums
