@@ -1,1 +1,3 @@
 pub mod Long
+pub mod Tiering
+pub mod Striking

@@ -37,19 +37,24 @@ pub record LongReady (s : State) (words clauses irred core mid local : List ℕ)
   pub tier-room : at (s .tiers) t < length (listAt (irred ∷ core ∷ mid ∷ local ∷ []) t)
   pub count : at (s .counts) t ≤ 2 ^ 22
 
+-- a tier's list grows by one
+module _ (s : State) (words clauses irred core mid local : List ℕ) (four : length (s .tiers) ≡ 4) (u x : ℕ) (h : u < 4)
+    (used : (v : ℕ) → v < 4 → at (s .tiers) v ≤ length (listAt (lentFive s words clauses irred core mid local noHost .tiers) v)) where
+  abbrev bufs : List (List ℕ)
+  bufs = lentFive s words clauses irred core mid local noHost .tiers
+
+  within : Within (s .tiers) bufs
+  within = within-of (s .tiers) bufs four used
+
+  pub grown : length (listAt (push u x (takeEach (s .tiers) bufs)) u) ≡ at (s .tiers) u + 1
+  grown =
+      sym (at-lengths (push u x (takeEach (s .tiers) bufs)) u)
+      ∙ ap (λ (l : List ℕ). at l u) (sym (lengths-each-push (s .tiers) bufs u x within))
+      ∙ getD-set-same (s .tiers) u (at (s .tiers) u + 1) 0 (omega arith)
+
 module _ (s : State) (words clauses irred core mid local : List ℕ) (t g : ℕ) (ls : List ℕ) (four : length (s .tiers) ≡ 4) where
   abbrev k : Lent
   k = lentFive s words clauses irred core mid local noHost
-
-  within : ((u : ℕ) → u < 4 → at (s .tiers) u ≤ length (listAt (k .tiers) u)) → Within (s .tiers) (k .tiers)
-  within h = within-of (s .tiers) (k .tiers) four h
-
-  -- the tier's list grows by one
-  grown : (u : ℕ) → u < 4 → Within (s .tiers) (k .tiers) → length (listAt (push u (s .words) (takeEach (s .tiers) (k .tiers))) u) ≡ at (s .tiers) u + 1
-  grown u h w =
-      sym (at-lengths (push u (s .words) (takeEach (s .tiers) (k .tiers))) u)
-      ∙ ap (λ (l : List ℕ). at l u) (sym (lengths-each-push (s .tiers) (k .tiers) u (s .words) w))
-      ∙ getD-set-same (s .tiers) u (at (s .tiers) u + 1) 0 (omega arith)
 
   pub long-ready : judged fiveLists k ≡ 0 → ownNumber (addClause t g ls) k ≡ 0 → LongReady s words clauses irred core mid local t ls
   unfolding hasRoom step parts addedLong view refusedFor own
@@ -69,7 +74,7 @@ module _ (s : State) (words clauses irred core mid local : List ℕ) (t g : ℕ)
       let p = held-words (view k) (words-pass fiveLists (view k) (store-judged fiveLists k j) refl) in
       let len : length (take (s .clauses) clauses) ≡ s .clauses = length-take-le (s .clauses) clauses (l .used) in
       let more : length (snoc (take (s .clauses) clauses) (s .words)) ≡ length (take (s .clauses) clauses) + 1 = length-append (take (s .clauses) clauses) (s .words ∷ []) in
-      let longer = grown t tier (within used) in
+      let longer = grown s words clauses irred core mid local four t (s .words) tier used in
       let ct = p .counts t tier in
       let most = count-le (liveIn words (take (s .clauses) clauses) t) (length (take (s .clauses) clauses)) in
       let lm = l .most in
