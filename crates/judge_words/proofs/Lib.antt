@@ -1,2 +1,5 @@
+pub mod Bisect
+pub mod Clauses
+pub mod Counting
 pub mod Literals
 pub mod Placing

@@ -1,67 +1,60 @@
+use mathlib.Core.Path.{_≡_, sym, ap, _∙_}
+use Prim.Native.Nat.{ℕ, _≤_, _-_}
+use native.Mathlib.Nat.{le-antisymm}
+use Rattle.laws.specs.Fold.{sumBelow}
+use Rattle.laws.proofs.Sums.{sum-none}
+use Rattle.calls.specs.StorePasses.{liveSize}
+use Rattle.calls.proofs.Readings.{ends-read}
+use Rattle.judge_words.proofs.Counting.{words-skip, words-add, words-fit}
+use borrow.Author.Needs.{needs}
+use native.Mathlib.Omega.{arith}
 use Rattle.judge_words.proofs.live_words.Statement.{statement}
 use Rattle.judge_words.proofs.live_words.Tie as tie
-use Rattle.judge_words.proofs.live_words.Reads as reads
-use Rattle.judge_words.proofs.live_words.Lts as lts
-use Rattle.buffers.proofs.word.Reads as word-reads
-use Rattle.judge_words.proofs.deleted_at.Reads as deleted-at-reads
 
 abbrev Inv-loop : tie.InvT-loop
-Inv-loop used words clauses n total₀ i₀ total i = ?
+Inv-loop used words clauses n total₀ i₀ total i = (i ≤ n) × (total ≡ sumBelow (liveSize words clauses) i)
 
 abbrev μ-loop : tie.MeasureT-loop
-μ-loop used words clauses n total₀ i₀ total i = ?
+μ-loop used words clauses n total₀ i₀ total i = n - i
 
--- src/lib.rt:238:5
 loop-holds : tie.Need-loop-holds Inv-loop μ-loop
-loop-holds c = ?
+loop-holds c = (omega arith, sym (sum-none _))
 
--- src/lib.rt:239:13
 word-requires : tie.Need-word-requires Inv-loop μ-loop
-word-requires c κs = ?
+word-requires c κs = search needs
 
--- src/lib.rt:240:9
 add-i : tie.Need-add-i Inv-loop μ-loop
-add-i c = ?
+add-i c = search needs
 
--- src/lib.rt:241:13
 deleted-at-requires : tie.Need-deleted-at-requires Inv-loop μ-loop
-deleted-at-requires c κs = ?
+deleted-at-requires c κs = omega (arith, ends-read _ _ _ _ (c .before .before .before .before .before .pre .1) (c .before .before .loop .i) (c .before .loop-test .taken))
 
--- src/lib.rt:242:42
 add-word : tie.Need-add-word Inv-loop μ-loop
-add-word c = ?
+add-word c = omega (arith, ends-read _ _ _ _ (c .before .before .before .before .before .before .before .pre .1) (c .before .before .before .before .loop .i) (c .before .before .before .loop-test .taken))
 
--- src/lib.rt:242:30
 word-requires-2 : tie.Need-word-requires-2 Inv-loop μ-loop
-word-requires-2 c κs = ?
+word-requires-2 c κs = omega (arith, ends-read _ _ _ _ (c .before .before .before .before .before .before .before .pre .1) (c .before .before .before .before .loop .i) (c .before .before .before .loop-test .taken))
 
--- src/lib.rt:242:30
 add-total : tie.Need-add-total Inv-loop μ-loop
-add-total c = ?
+add-total c = search needs
 
--- src/lib.rt:242:21
 add-total-2 : tie.Need-add-total-2 Inv-loop μ-loop
-add-total-2 c = ?
+add-total-2 c = omega (arith, words-fit _ _ _ _ (c .before .before .before .before .before .before .before .before .pre .1) (c .before .before .before .before .before .loop .i) (c .before .before .before .before .loop-test .taken) _ _ _ (c .before .before .before .word .ensures .0) (c .word2 .ensures .0) (c .before .before .before .before .before .loop .inv .1))
 
--- src/lib.rt:238:5
 loop-less : tie.Need-loop-less Inv-loop μ-loop
-loop-less c = ?
+loop-less c = search needs
 
--- src/lib.rt:238:5
 loop-again : tie.Need-loop-again Inv-loop μ-loop
-loop-again c = ?
+loop-again c = (omega arith, words-add _ _ _ _ (c .before .before .before .word .ensures .0) (c .before .before .deleted-at .ensures) (c .before .before .before .before .before .loop .inv .1) (c .before .if1 .taken) _ (c .word2 .ensures .0))
 
--- src/lib.rt:238:5
 loop-less-2 : tie.Need-loop-less-2 Inv-loop μ-loop
-loop-less-2 c = ?
+loop-less-2 c = search needs
 
--- src/lib.rt:238:5
 loop-again-2 : tie.Need-loop-again-2 Inv-loop μ-loop
-loop-again-2 c = ?
+loop-again-2 c = (omega arith, words-skip _ _ _ _ (c .before .before .word .ensures .0) (c .before .deleted-at .ensures) (c .before .before .before .before .loop .inv .1) (c .if1 .left))
 
--- src/lib.rt:231:1
 returns : tie.Need-returns Inv-loop μ-loop
-returns c = ?
+returns c = c .before .loop .inv .1 ∙ ap (sumBelow _) (le-antisymm (c .before .loop .inv .0) (c .loop-test .left))
 
 pub live-words-spec : {M : Type 1} → statement M
 live-words-spec =

@@ -1,54 +1,45 @@
+use Prim.Native.Nat.{_-_}
+use Rattle.judge_words.proofs.Bisect.{Bracket, bracket-start, bracket-up, bracket-down, bracket-end}
+use borrow.Author.Needs.{needs}
+use native.Mathlib.Omega.{arith}
 use Rattle.judge_words.proofs.seek.Statement.{statement}
 use Rattle.judge_words.proofs.seek.Tie as tie
-use Rattle.judge_words.proofs.seek.Reads as reads
-use Rattle.judge_words.proofs.seek.Lts as lts
-use Rattle.buffers.proofs.word.Reads as word-reads
 
 abbrev Inv-loop : tie.InvT-loop
-Inv-loop clauses n x low₀ high₀ low high = ?
+Inv-loop clauses n x low₀ high₀ low high = Bracket clauses n x low high
 
 abbrev μ-loop : tie.MeasureT-loop
-μ-loop clauses n x low₀ high₀ low high = ?
+μ-loop clauses n x low₀ high₀ low high = high - low
 
--- src/lib.rt:296:5
 loop-holds : tie.Need-loop-holds Inv-loop μ-loop
-loop-holds c = ?
+loop-holds c = bracket-start _ _ _
 
--- src/lib.rt:297:26
 sub-mid : tie.Need-sub-mid Inv-loop μ-loop
-sub-mid c = ?
+sub-mid c = search needs
 
--- src/lib.rt:297:19
 add-mid : tie.Need-add-mid Inv-loop μ-loop
-add-mid c = ?
+add-mid c = search needs
 
--- src/lib.rt:298:12
 word-requires : tie.Need-word-requires Inv-loop μ-loop
-word-requires c κs = ?
+word-requires c κs = search needs
 
--- src/lib.rt:299:19
 add-low : tie.Need-add-low Inv-loop μ-loop
-add-low c = ?
+add-low c = search needs
 
--- src/lib.rt:296:5
 loop-less : tie.Need-loop-less Inv-loop μ-loop
-loop-less c = ?
+loop-less c = search needs
 
--- src/lib.rt:296:5
 loop-again : tie.Need-loop-again Inv-loop μ-loop
-loop-again c = ?
+loop-again c = bracket-up (c .before .before .before .before .before .pre .1) (c .before .before .before .loop .inv) _ _ (c .before .word .ensures .0) (omega arith) (omega arith) (c .if1 .taken)
 
--- src/lib.rt:296:5
 loop-less-2 : tie.Need-loop-less-2 Inv-loop μ-loop
-loop-less-2 c = ?
+loop-less-2 c = search needs
 
--- src/lib.rt:296:5
 loop-again-2 : tie.Need-loop-again-2 Inv-loop μ-loop
-loop-again-2 c = ?
+loop-again-2 c = bracket-down (c .before .before .before .before .before .pre .1) (c .before .before .before .loop .inv) _ _ (c .before .word .ensures .0) (omega arith) (omega arith) (c .if1 .left)
 
--- src/lib.rt:290:1
 returns : tie.Need-returns Inv-loop μ-loop
-returns c = ?
+returns c = bracket-end (c .before .loop .inv) (c .loop-test .left)
 
 pub seek-spec : {M : Type 1} → statement M
 seek-spec =

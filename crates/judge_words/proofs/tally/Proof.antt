@@ -1,76 +1,69 @@
+use mathlib.Core.Path.{_≡_, refl, _∙_}
+use Prim.Native.Nat.{ℕ, _≤_, _-_, _+_}
+use lib.ListN.{length, length-set}
+use Rattle.laws.proofs.Folds.{count-le}
+use Rattle.calls.specs.StorePasses.{liveIn}
+use Rattle.calls.proofs.Readings.{ends-read}
+use Rattle.judge_words.specs.Judging.{Tally}
+use Rattle.judge_words.proofs.Counting.{tally-none, tally-end, tally-skip, tally-add}
+use borrow.Author.Needs.{needs}
+use native.Mathlib.Omega.{arith}
 use Rattle.judge_words.proofs.tally.Statement.{statement}
 use Rattle.judge_words.proofs.tally.Tie as tie
-use Rattle.judge_words.proofs.tally.Reads as reads
-use Rattle.judge_words.proofs.tally.Lts as lts
-use Rattle.buffers.proofs.word.Reads as word-reads
-use Rattle.judge_words.proofs.deleted_at.Reads as deleted-at-reads
-use Rattle.judge_words.proofs.tier_at.Reads as tier-at-reads
 
 abbrev Inv-loop : tie.InvT-loop
-Inv-loop used words clauses n counts₀ i₀ counts i = ?
+Inv-loop used words clauses n counts₀ i₀ counts i = (i ≤ n) × (length counts ≡ 4) × Tally words clauses i counts
 
 abbrev μ-loop : tie.MeasureT-loop
-μ-loop used words clauses n counts₀ i₀ counts i = ?
+μ-loop used words clauses n counts₀ i₀ counts i = n - i
 
--- src/lib.rt:194:5
 loop-holds : tie.Need-loop-holds Inv-loop μ-loop
-loop-holds c = ?
+loop-holds c = (omega arith, refl, tally-none _ _)
 
--- src/lib.rt:195:13
 word-requires : tie.Need-word-requires Inv-loop μ-loop
-word-requires c κs = ?
+word-requires c κs = search needs
 
--- src/lib.rt:196:9
 add-i : tie.Need-add-i Inv-loop μ-loop
-add-i c = ?
+add-i c = search needs
 
--- src/lib.rt:197:13
 deleted-at-requires : tie.Need-deleted-at-requires Inv-loop μ-loop
-deleted-at-requires c κs = ?
+deleted-at-requires c κs = omega (arith, ends-read _ _ _ _ (c .before .before .before .before .before .pre .1) (c .before .before .loop .i) (c .before .loop-test .taken))
 
--- src/lib.rt:198:17
 tier-at-requires : tie.Need-tier-at-requires Inv-loop μ-loop
-tier-at-requires c κs = ?
+tier-at-requires c κs = omega (arith, ends-read _ _ _ _ (c .before .before .before .before .before .before .before .pre .1) (c .before .before .before .before .loop .i) (c .before .before .before .loop-test .taken))
 
--- src/lib.rt:199:28
 mul-counts : tie.Need-mul-counts Inv-loop μ-loop
-mul-counts c = ?
+mul-counts c = search needs
 
--- src/lib.rt:199:28
 array-read-counts : tie.Need-array-read-counts Inv-loop μ-loop
-array-read-counts c = ?
+array-read-counts c = search needs
 
--- src/lib.rt:199:28
 add-counts : tie.Need-add-counts Inv-loop μ-loop
-add-counts c = ?
+add-counts c = 
+    let t = c .tier-at .result in
+    let a = c .before .before .before .before .before .before .before .before .args in
+    omega (arith, c .before .before .before .before .before .loop .inv .2 .each t (c .tier-at .ensures .1), count-le (liveIn (a .words .now) (a .clauses .now) t) (c .before .before .before .before .before .loop .i))
 
--- src/lib.rt:199:13
 mul-counts-2 : tie.Need-mul-counts-2 Inv-loop μ-loop
-mul-counts-2 c = ?
+mul-counts-2 c = search needs
 
--- src/lib.rt:199:13
 array-write-counts : tie.Need-array-write-counts Inv-loop μ-loop
-array-write-counts c = ?
+array-write-counts c = search needs
 
--- src/lib.rt:194:5
 loop-less : tie.Need-loop-less Inv-loop μ-loop
-loop-less c = ?
+loop-less c = search needs
 
--- src/lib.rt:194:5
 loop-again : tie.Need-loop-again Inv-loop μ-loop
-loop-again c = ?
+loop-again c = (omega arith, length-set _ (c .tier-at .result) _ ∙ c .before .before .before .before .before .loop .inv .1, tally-add _ _ _ _ (c .before .before .before .word .ensures .0) (c .before .before .deleted-at .ensures) _ (c .before .before .before .before .before .loop .inv .1) (c .before .before .before .before .before .loop .inv .2) (c .before .if1 .taken) _ (c .tier-at .ensures .0) (c .tier-at .ensures .1))
 
--- src/lib.rt:194:5
 loop-less-2 : tie.Need-loop-less-2 Inv-loop μ-loop
-loop-less-2 c = ?
+loop-less-2 c = search needs
 
--- src/lib.rt:194:5
 loop-again-2 : tie.Need-loop-again-2 Inv-loop μ-loop
-loop-again-2 c = ?
+loop-again-2 c = (omega arith, c .before .before .before .before .loop .inv .1, tally-skip _ _ _ _ (c .before .before .word .ensures .0) (c .before .deleted-at .ensures) _ (c .before .before .before .before .loop .inv .2) (c .if1 .left))
 
--- src/lib.rt:187:1
 returns : tie.Need-returns Inv-loop μ-loop
-returns c = ?
+returns c = tally-end (c .before .loop .inv .2) (c .before .loop .inv .0) (c .loop-test .left)
 
 pub tally-spec : {M : Type 1} → statement M
 tally-spec =
