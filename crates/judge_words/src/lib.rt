@@ -148,13 +148,7 @@ fn clause_ok(vars: usize, words: &[u32], offset: usize, stamps: &mut [u32]) -> b
 }
 
 // Clause i of the list, if it is live.
-fn clause_ok_at(
-    vars: usize,
-    words: &[u32],
-    clauses: &[u32],
-    i: usize,
-    stamps: &mut [u32],
-) -> bool
+fn clause_ok_at(vars: usize, words: &[u32], clauses: &[u32], i: usize, stamps: &mut [u32]) -> bool
     requires { ⌜ (vars ≤ 65536) × (i < length (now clauses)) × (endAt (now words) (at (now clauses) i) ≤ length (now words)) × (length (now words) ≤ 2 ^ 24) ⌝ }
     requires { ⌜ (length (now stamps) ≡ 65536) × Below (now stamps) (at (now clauses) i + 1) ⌝ }
     ensures { λ r. ⌜ (r ≡ clauseOkAt (now (words .entry)) vars (now (clauses .entry)) i) × Below (now (stamps .exit)) (at (now (clauses .entry)) i + 2) ⌝ }
@@ -202,13 +196,7 @@ fn tally(used: usize, words: &[u32], clauses: &[u32], n: usize) -> [usize; 4]
     counts
 }
 
-fn counts_ok(
-    used: usize,
-    counts: [usize; 4],
-    words: &[u32],
-    clauses: &[u32],
-    n: usize,
-) -> bool
+fn counts_ok(used: usize, counts: [usize; 4], words: &[u32], clauses: &[u32], n: usize) -> bool
     requires { ⌜ (used ≤ length (now words)) × (n ≤ length (now clauses)) ⌝ }
     requires { ⌜ placed (now words) used (now clauses) n ≡ true ⌝ }
     ensures { λ r. ⌜ r ≡ countsOk (now (words .entry)) (now (clauses .entry)) n counts ⌝ }

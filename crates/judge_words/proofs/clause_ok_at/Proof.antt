@@ -20,7 +20,7 @@ returns : tie.Need-returns
 returns c = (clause-dead _ _ _ _ _ (c .before .before .word .ensures .0) (c .before .deleted-at .ensures) (c .if1 .taken), below-wider (c .before .before .before .before .before .before .pre .1 .1) (omega arith))
 
 clause-ok-requires : tie.Need-clause-ok-requires
-clause-ok-requires c κs = 
+clause-ok-requires c κs =
     let s = c .before .before .before .before .before .before .before .args in
     let p = c .before .before .before .before .before .before .before .pre in
     let e = sym (c .before .before .before .word .ensures .0) in

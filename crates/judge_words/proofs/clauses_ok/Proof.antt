@@ -26,7 +26,7 @@ slice-aggregate-clause-ok-at : tie.Need-slice-aggregate-clause-ok-at Inv-loop μ
 slice-aggregate-clause-ok-at c = search needs
 
 clause-ok-at-requires : tie.Need-clause-ok-at-requires Inv-loop μ-loop
-clause-ok-at-requires c κs = 
+clause-ok-at-requires c κs =
     let l = c .before .before .loop in
     let p = c .before .before .before .before .before .pre in
     ((omega arith, omega arith, omega (arith, ends-read _ _ _ _ (p .1) (l .i) (c .before .loop-test .taken)), omega arith), (l .inv .2, l .inv .3 .below (c .before .loop-test .taken)))

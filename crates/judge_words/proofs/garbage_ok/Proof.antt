@@ -1,21 +1,16 @@
+use Rattle.judge_words.proofs.Counting.{garbage-over, garbage-test}
 use borrow.Author.Needs.{needs}
 use Rattle.judge_words.proofs.garbage_ok.Statement.{statement}
 use Rattle.judge_words.proofs.garbage_ok.Tie as tie
-use Rattle.judge_words.proofs.garbage_ok.Reads as reads
-use Rattle.judge_words.proofs.garbage_ok.Lts as lts
-use Rattle.judge_words.proofs.live_words.Reads as live-words-reads
 
--- src/lib.rt:254:9
 returns : tie.Need-returns
-returns c = ?
+returns c = garbage-over _ _ _ _ _ (c .if1 .taken)
 
--- src/lib.rt:256:9
 live-words-requires : tie.Need-live-words-requires
 live-words-requires c κs = search needs
 
--- src/lib.rt:248:1
 returns-2 : tie.Need-returns-2
-returns-2 c = ?
+returns-2 c = garbage-test _ _ _ _ _ (c .before .if1 .left) _ (c .live-words .ensures)
 
 pub garbage-ok-spec : {M : Type 1} → statement M
 garbage-ok-spec = tie.close (tie.spec returns live-words-requires returns-2)

@@ -1,25 +1,19 @@
+use Rattle.judge_words.proofs.Bisect.{rising, found-inside, live-miss, live-hit}
+use native.Mathlib.Omega.{arith}
 use Rattle.judge_words.proofs.is_live.Statement.{statement}
 use Rattle.judge_words.proofs.is_live.Tie as tie
-use Rattle.judge_words.proofs.is_live.Reads as reads
-use Rattle.judge_words.proofs.is_live.Lts as lts
-use Rattle.judge_words.proofs.deleted_at.Reads as deleted-at-reads
-use Rattle.judge_words.proofs.find.Reads as find-reads
 
--- src/lib.rt:328:9
 find-requires : tie.Need-find-requires
-find-requires c κs = ?
+find-requires c κs = (omega arith, rising _ _ _ _ (c .before .before .pre .1))
 
--- src/lib.rt:330:9
 returns : tie.Need-returns
-returns c = ?
+returns c = live-miss _ _ _ _ _ (c .before .before .before .before .pre .0 .1) (c .before .find .ensures) (c .if1 .taken)
 
--- src/lib.rt:332:6
 deleted-at-requires : tie.Need-deleted-at-requires
-deleted-at-requires c κs = ?
+deleted-at-requires c κs = omega (arith, found-inside _ _ _ _ _ _ (c .before .before .before .before .pre .1) (c .before .find .ensures) (c .if1 .left))
 
--- src/lib.rt:323:1
 returns-2 : tie.Need-returns-2
-returns-2 c = ?
+returns-2 c = live-hit _ _ _ _ _ (c .before .before .before .before .before .pre .0 .1) (c .before .before .find .ensures) (c .before .if1 .left) (c .deleted-at .ensures)
 
 pub is-live-spec : {M : Type 1} → statement M
 is-live-spec = tie.close (tie.spec find-requires returns deleted-at-requires returns-2)

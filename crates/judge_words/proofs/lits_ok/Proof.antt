@@ -60,13 +60,14 @@ loop-less : tie.Need-loop-less Inv-loop μ-loop
 loop-less c = search needs
 
 loop-again : tie.Need-loop-again Inv-loop μ-loop
-loop-again c = 
+loop-again c =
     let l = c .before .before .before .before .before .loop in
-    let x = c .before .before .before .word in
-    (omega arith,
-    all-more _ _ (l .inv .1) (lit-new _ _ _ _ (l .inv .3) _ (x .ensures .0) (c .before .before .if1 .left) (c .if2 .left)),
-    length-set (l .stamps) (x .result / 2) _ ∙ l .inv .2,
-    stamped-more _ (c .before .before .before .before .before .before .before .before .args .vars) _ _ (l .inv .3) _ (x .ensures .0) (omega arith))
+    let x = c .before .before .before .word in (
+      omega arith,
+      all-more _ _ (l .inv .1) (lit-new _ _ _ _ (l .inv .3) _ (x .ensures .0) (c .before .before .if1 .left) (c .if2 .left)),
+      length-set (l .stamps) (x .result / 2) _ ∙ l .inv .2,
+      stamped-more _ (c .before .before .before .before .before .before .before .before .args .vars) _ _ (l .inv .3) _ (x .ensures .0) (omega arith),
+    )
 
 same-length-3 : tie.Need-same-length-3 Inv-loop μ-loop
 same-length-3 c = omega arith

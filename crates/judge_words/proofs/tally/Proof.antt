@@ -39,7 +39,7 @@ array-read-counts : tie.Need-array-read-counts Inv-loop μ-loop
 array-read-counts c = search needs
 
 add-counts : tie.Need-add-counts Inv-loop μ-loop
-add-counts c = 
+add-counts c =
     let t = c .tier-at .result in
     let a = c .before .before .before .before .before .before .before .before .args in
     omega (arith, c .before .before .before .before .before .loop .inv .2 .each t (c .tier-at .ensures .1), count-le (liveIn (a .words .now) (a .clauses .now) t) (c .before .before .before .before .before .loop .i))
@@ -54,7 +54,7 @@ loop-less : tie.Need-loop-less Inv-loop μ-loop
 loop-less c = search needs
 
 loop-again : tie.Need-loop-again Inv-loop μ-loop
-loop-again c = (omega arith, length-set _ (c .tier-at .result) _ ∙ c .before .before .before .before .before .loop .inv .1, tally-add _ _ _ _ (c .before .before .before .word .ensures .0) (c .before .before .deleted-at .ensures) _ (c .before .before .before .before .before .loop .inv .1) (c .before .before .before .before .before .loop .inv .2) (c .before .if1 .taken) _ (c .tier-at .ensures .0) (c .tier-at .ensures .1))
+loop-again c = (omega arith, length-set {A = ℕ} (c .before .before .before .before .before .loop .counts) (c .tier-at .result) _ ∙ c .before .before .before .before .before .loop .inv .1, tally-add _ _ _ _ (c .before .before .before .word .ensures .0) (c .before .before .deleted-at .ensures) _ (c .before .before .before .before .before .loop .inv .1) (c .before .before .before .before .before .loop .inv .2) (c .before .if1 .taken) _ (c .tier-at .ensures .0) (c .tier-at .ensures .1))
 
 loop-less-2 : tie.Need-loop-less-2 Inv-loop μ-loop
 loop-less-2 c = search needs

@@ -1,44 +1,33 @@
+use mathlib.Core.Path.{_∙_}
+use Rattle.laws.proofs.Tests.{passed, failed}
 use borrow.Author.Needs.{needs}
+use native.Mathlib.Omega.{arith}
 use Rattle.judge_words.proofs.words_pass.Statement.{statement}
 use Rattle.judge_words.proofs.words_pass.Tie as tie
-use Rattle.judge_words.proofs.words_pass.Reads as reads
-use Rattle.judge_words.proofs.words_pass.Lts as lts
-use Rattle.judge_words.proofs.all_placed.Reads as all-placed-reads
-use Rattle.judge_words.proofs.clauses_ok.Reads as clauses-ok-reads
-use Rattle.judge_words.proofs.counts_ok.Reads as counts-ok-reads
-use Rattle.judge_words.proofs.garbage_ok.Reads as garbage-ok-reads
 
--- src/lib.rt:275:9
 all-placed-requires : tie.Need-all-placed-requires
 all-placed-requires c κs = search needs
 
--- src/lib.rt:276:9
 returns : tie.Need-returns
-returns c = ?
+returns c = simp (failed (c .before .all-placed .ensures) (c .if1 .taken))
 
--- src/lib.rt:278:9
 clauses-ok-requires : tie.Need-clauses-ok-requires
-clauses-ok-requires c κs = ?
+clauses-ok-requires c κs = (c .before .before .before .before .pre, passed (c .before .all-placed .ensures) (c .if1 .left))
 
--- src/lib.rt:279:9
 returns-2 : tie.Need-returns-2
-returns-2 c = ?
+returns-2 c = simp (passed (c .before .before .before .all-placed .ensures) (c .before .before .if1 .left), failed (c .before .clauses-ok .ensures) (c .if2 .taken))
 
--- src/lib.rt:281:9
 counts-ok-requires : tie.Need-counts-ok-requires
-counts-ok-requires c κs = ?
+counts-ok-requires c κs = ((omega arith, omega arith), passed (c .before .before .before .all-placed .ensures) (c .before .before .if1 .left))
 
--- src/lib.rt:282:9
 returns-3 : tie.Need-returns-3
-returns-3 c = ?
+returns-3 c = simp (passed (c .before .before .before .before .before .all-placed .ensures) (c .before .before .before .before .if1 .left), passed (c .before .before .before .clauses-ok .ensures) (c .before .before .if2 .left), failed (c .before .counts-ok .ensures) (c .if3 .taken))
 
--- src/lib.rt:284:5
 garbage-ok-requires : tie.Need-garbage-ok-requires
-garbage-ok-requires c κs = ?
+garbage-ok-requires c κs = ((omega arith, omega arith), passed (c .before .before .before .before .before .all-placed .ensures) (c .before .before .before .before .if1 .left))
 
--- src/lib.rt:263:1
 returns-4 : tie.Need-returns-4
-returns-4 c = ?
+returns-4 c = c .garbage-ok .ensures ∙ simp (passed (c .before .before .before .before .before .before .all-placed .ensures) (c .before .before .before .before .before .if1 .left), passed (c .before .before .before .before .clauses-ok .ensures) (c .before .before .before .if2 .left), passed (c .before .before .counts-ok .ensures) (c .before .if3 .left))
 
 pub words-pass-spec : {M : Type 1} → statement M
 words-pass-spec =
