@@ -3,3 +3,4 @@ pub mod Clauses
 pub mod Counting
 pub mod Literals
 pub mod Placing
+pub mod Whole
