@@ -1,7 +1,7 @@
 -- The binary search over rising offsets. Assumes nothing.
 use mathlib.Core.Path.{_≡_, refl, sym, ap, _∙_, subst}
 use mathlib.Core.Logic.{⊎-elim, _⊎_, inl, inr}
-use mathlib.Core.Bool.{Bool, true, false, not, _&&_}
+use mathlib.Core.Bool.{Bool, true, false, not, _&&_, _||_, true≢false}
 use mathlib.Core.List.{List, [], _∷_}
 use Prim.Native.Nat.{ℕ, zero, suc, _+_, _-_, _≤_, _<_}
 use native.Mathlib.Decide.{decLt}
@@ -10,11 +10,12 @@ use native.Mathlib.Nat.{eq-or-lt-of-le, not-suc-le-zero}
 use lib.Dec.{eqb}
 use lib.ListN.{length, take}
 use lib.Seq.{getD-take, length-take-le}
-use borrow.Author.Tests.{eq-eqb, ne-eqb}
+use borrow.Author.Tests.{eq-eqb, ne-eqb, eqb-true}
 use Rattle.laws.specs.Lists.{at, elem}
-use Rattle.laws.proofs.Folds.{or-left, or-right, or-neither, and-fails-left}
+use Rattle.laws.proofs.Folds.{or-left, or-right, or-neither, and-both, and-left, and-right, and-fails-left, any-at, any-find}
+use Rattle.laws.specs.Fold.{anyBelow}
 use Rattle.kinds.specs.Clauses.{endAt, deletedAt, isLive}
-use Rattle.calls.specs.StorePasses.{placed}
+use Rattle.calls.specs.StorePasses.{placed, liveAt, refAt}
 use Rattle.calls.proofs.Readings.{ends-read, rising-read}
 use Rattle.judge_words.specs.Judging.{Rising, Split, Found}
 
@@ -97,3 +98,38 @@ module _ (w l : List ℕ) (n e k : ℕ) (room : n ≤ length l) (F : Found l n e
   pub live-hit : k < n → {d : Bool} → d ≡ deletedAt w e → not d ≡ isLive w (take n l) e
   unfolding isLive
   live-hit h ed = sym (ap (λ (b : Bool). b && not (deletedAt w e)) (elem-at (take n l) e k (omega (arith, length-take-le n l room)) (getD-take n l k 0 h ∙ F .hit h)) ∙ ap not (sym ed))
+
+elem-find : (l : List ℕ) (e : ℕ) → elem e l ≡ true → (k : ℕ) × (k < length l) × (at l k ≡ e)
+unfolding elem
+elem-find [] e h = absurd (true≢false (sym h))
+elem-find (y ∷ l) e h = go (elem-find l e) (eqb e y) refl
+  where
+    go : (elem e l ≡ true → (k : ℕ) × (k < length l) × (at l k ≡ e)) → (b : Bool) → eqb e y ≡ b → (k : ℕ) × (k < length (y ∷ l)) × (at (y ∷ l) k ≡ e)
+    go ih true q = (0, omega arith, sym (eqb-true e y q))
+    go ih false q = let r = ih (ap (λ (b : Bool). b || elem e l) (sym q) ∙ h) in (suc (r .0), omega (arith, r .1), r .2)
+
+-- a live clause's reference, in the two ways that definitions say it
+pub ref-is-live : (w l : List ℕ) (n e : ℕ) → n ≤ length l → anyBelow (refAt w l e) n ≡ isLive w (take n l) e
+unfolding refAt isLive liveAt
+ref-is-live w l n e h = go (anyBelow (refAt w l e) n) (isLive w (take n l) e) refl refl
+  where
+    listed : length (take n l) ≡ n
+    listed = length-take-le n l h
+
+    hit : anyBelow (refAt w l e) n ≡ true → isLive w (take n l) e ≡ true
+    hit q =
+        let r = any-find (refAt w l e) n q in
+        let s : at l (r .0) ≡ e = eqb-true (at l (r .0)) e (and-right (liveAt w l (r .0)) _ (r .2)) in
+        and-both _ _ (elem-at (take n l) e (r .0) (omega (arith, listed, r .1)) (getD-take n l (r .0) 0 (r .1) ∙ s)) (ap (λ (z : ℕ). not (deletedAt w z)) (sym s) ∙ and-left _ _ (r .2))
+
+    miss : isLive w (take n l) e ≡ true → anyBelow (refAt w l e) n ≡ true
+    miss q =
+        let r = elem-find (take n l) e (and-left _ _ q) in
+        let b : r .0 < n = omega (arith, listed, r .1) in
+        let s : at l (r .0) ≡ e = sym (getD-take n l (r .0) 0 b) ∙ r .2 in
+        any-at (refAt w l e) n (r .0) b (and-both _ _ (ap (λ (z : ℕ). not (deletedAt w z)) s ∙ and-right (elem e (take n l)) _ q) (eq-eqb (at l (r .0)) e s))
+
+    go : (a b : Bool) → anyBelow (refAt w l e) n ≡ a → isLive w (take n l) e ≡ b → anyBelow (refAt w l e) n ≡ isLive w (take n l) e
+    go true b p q = p ∙ sym (hit p)
+    go false true p q = miss q ∙ sym q
+    go false false p q = p ∙ sym q
