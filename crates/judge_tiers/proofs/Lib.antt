@@ -1,1 +1,4 @@
+pub mod Entries
 pub mod MarkBit
+pub mod Marks
+pub mod Steps

@@ -1,42 +1,40 @@
+use mathlib.Core.Path.{_≡_}
+use mathlib.Core.Bool.{true}
+use Prim.Native.Nat.{_≤_, _-_}
+use Rattle.laws.specs.Fold.{allBelow}
+use Rattle.laws.proofs.Folds.{all-none, all-out, all-next, all-end}
+use Rattle.judge_tiers.specs.Marking.{markedAt}
+use borrow.Author.Needs.{needs}
+use native.Mathlib.Omega.{arith}
 use Rattle.judge_tiers.proofs.all_marked.Statement.{statement}
 use Rattle.judge_tiers.proofs.all_marked.Tie as tie
-use Rattle.judge_tiers.proofs.all_marked.Reads as reads
-use Rattle.judge_tiers.proofs.all_marked.Lts as lts
-use Rattle.judge_tiers.proofs.marked_at.Reads as marked-at-reads
 
 abbrev Inv-loop : tie.InvT-loop
-Inv-loop words clauses n t i₀ i = ?
+Inv-loop words clauses n t i₀ i = (i ≤ n) × (allBelow (markedAt words clauses t) i ≡ true)
 
 abbrev μ-loop : tie.MeasureT-loop
-μ-loop words clauses n t i₀ i = ?
+μ-loop words clauses n t i₀ i = n - i
 
--- src/lib.rt:74:5
 loop-holds : tie.Need-loop-holds Inv-loop μ-loop
-loop-holds c = ?
+loop-holds c = (omega arith, all-none _)
 
--- src/lib.rt:75:13
 marked-at-requires : tie.Need-marked-at-requires Inv-loop μ-loop
-marked-at-requires c κs = ?
+marked-at-requires c κs = (omega arith, c .before .before .before .before .pre .1 .inside _ (c .loop-test .taken))
 
--- src/lib.rt:76:13
 returns : tie.Need-returns Inv-loop μ-loop
-returns c = ?
+returns c = all-out _ _ _ (c .before .before .loop-test .taken) (c .before .marked-at .ensures) (c .if1 .taken)
 
--- src/lib.rt:78:9
 add-i : tie.Need-add-i Inv-loop μ-loop
-add-i c = ?
+add-i c = search needs
 
--- src/lib.rt:74:5
 loop-less : tie.Need-loop-less Inv-loop μ-loop
-loop-less c = ?
+loop-less c = search needs
 
--- src/lib.rt:74:5
 loop-again : tie.Need-loop-again Inv-loop μ-loop
-loop-again c = ?
+loop-again c = (omega arith, all-next _ _ (c .before .before .before .loop .inv .1) (c .before .marked-at .ensures) (c .if1 .left))
 
--- src/lib.rt:69:1
 returns-2 : tie.Need-returns-2 Inv-loop μ-loop
-returns-2 c = ?
+returns-2 c = all-end _ _ _ (c .before .loop .inv .1) (c .before .loop .inv .0) (c .loop-test .left)
 
 pub all-marked-spec : {M : Type 1} → statement M
 all-marked-spec =

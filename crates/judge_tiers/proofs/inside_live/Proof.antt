@@ -1,55 +1,42 @@
+use Rattle.judge_words.proofs.Bisect.{rising}
+use Rattle.judge_tiers.proofs.Entries.{in-none, in-dead, in-test, seek-inside}
 use borrow.Author.Needs.{needs}
+use native.Mathlib.Omega.{arith}
 use Rattle.judge_tiers.proofs.inside_live.Statement.{statement}
 use Rattle.judge_tiers.proofs.inside_live.Tie as tie
-use Rattle.judge_tiers.proofs.inside_live.Reads as reads
-use Rattle.judge_tiers.proofs.inside_live.Lts as lts
-use Rattle.buffers.proofs.word.Reads as word-reads
-use Rattle.judge_words.proofs.deleted_at.Reads as deleted-at-reads
-use Rattle.judge_words.proofs.seek.Reads as seek-reads
 
--- src/lib.rt:135:9
 seek-requires : tie.Need-seek-requires
-seek-requires c κs = ?
+seek-requires c κs = (omega arith, rising _ _ _ _ (c .before .before .pre .1))
 
--- src/lib.rt:137:9
 returns : tie.Need-returns
-returns c = ?
+returns c = in-none _ _ _ _ (c .before .before .before .before .pre .1) _ _ (c .before .seek .ensures) (c .if1 .taken)
 
--- src/lib.rt:139:32
 sub-word : tie.Need-sub-word
 sub-word c = search needs
 
--- src/lib.rt:139:9
 word-requires : tie.Need-word-requires
-word-requires c κs = search needs
+word-requires c κs = omega (arith, c .before .seek .ensures .within)
 
--- src/lib.rt:140:8
 deleted-at-requires : tie.Need-deleted-at-requires
-deleted-at-requires c κs = ?
+deleted-at-requires c κs = omega (arith, seek-inside _ _ _ _ (c .before .before .before .before .before .pre .1) _ _ (c .before .before .seek .ensures) (c .before .if1 .left) (c .word .ensures .0))
 
--- src/lib.rt:141:9
 returns-2 : tie.Need-returns-2
-returns-2 c = ?
+returns-2 c = in-dead _ _ _ _ (c .before .before .before .before .before .before .before .pre .1) _ _ (c .before .before .before .before .seek .ensures) (c .before .before .before .if1 .left) _ (c .before .before .word .ensures .0) (c .before .deleted-at .ensures) (c .if2 .taken)
 
--- src/lib.rt:143:31
 add-word : tie.Need-add-word
 add-word c = search needs
 
--- src/lib.rt:143:19
 word-requires-2 : tie.Need-word-requires-2
-word-requires-2 c κs = ?
+word-requires-2 c κs = omega (arith, seek-inside _ _ _ _ (c .before .before .before .before .before .before .before .pre .1) _ _ (c .before .before .before .before .seek .ensures) (c .before .before .before .if1 .left) (c .before .before .word .ensures .0))
 
--- src/lib.rt:143:19
 add-result : tie.Need-add-result
 add-result c = search needs
 
--- src/lib.rt:143:9
 add-result-2 : tie.Need-add-result-2
 add-result-2 c = search needs
 
--- src/lib.rt:130:1
 returns-3 : tie.Need-returns-3
-returns-3 c = ?
+returns-3 c = in-test _ _ _ _ (c .before .before .before .before .before .before .before .before .pre .1) _ _ (c .before .before .before .before .before .seek .ensures) (c .before .before .before .before .if1 .left) _ (c .before .before .before .word .ensures .0) (c .before .before .deleted-at .ensures) (c .before .if2 .left) _ (c .word2 .ensures .0)
 
 pub inside-live-spec : {M : Type 1} → statement M
 inside-live-spec =

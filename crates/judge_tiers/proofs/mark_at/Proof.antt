@@ -1,63 +1,47 @@
+use Rattle.judge_tiers.proofs.Steps.{found-within, mark-miss, mark-dead, mark-live}
 use borrow.Author.Needs.{needs}
+use native.Mathlib.Omega.{arith}
 use Rattle.judge_tiers.proofs.mark_at.Statement.{statement}
 use Rattle.judge_tiers.proofs.mark_at.Tie as tie
-use Rattle.judge_tiers.proofs.mark_at.Reads as reads
-use Rattle.judge_tiers.proofs.mark_at.Lts as lts
-use Rattle.header.proofs.deleted_of.Reads as deleted-of-reads
-use Rattle.header.proofs.with_mark.Reads as with-mark-reads
-use Rattle.judge_words.proofs.find.Reads as find-reads
 
--- src/lib.rt:30:9
 find-requires : tie.Need-find-requires
 find-requires c κs = search needs
 
--- src/lib.rt:32:9
 returns : tie.Need-returns
-returns c = ?
+returns c = mark-miss _ _ _ _ _ (c .before .find .ensures) (c .if1 .taken)
 
--- src/lib.rt:34:22
 add-head : tie.Need-add-head
-add-head c = ?
+add-head c = omega (arith, found-within (c .before .before .before .before .pre .2) (c .before .find .ensures) (c .if1 .left))
 
--- src/lib.rt:34:16
 mul-head : tie.Need-mul-head
-mul-head c = ?
+mul-head c = omega (arith, found-within (c .before .before .before .before .pre .2) (c .before .find .ensures) (c .if1 .left))
 
--- src/lib.rt:34:16
 slice-read-head : tie.Need-slice-read-head
-slice-read-head c = ?
+slice-read-head c = found-within (c .before .before .before .before .before .pre .2) (c .before .before .find .ensures) (c .before .if1 .left)
 
--- src/lib.rt:35:8
 deleted-of-requires : tie.Need-deleted-of-requires
 deleted-of-requires c κs = search needs
 
--- src/lib.rt:36:9
 returns-2 : tie.Need-returns-2
-returns-2 c = ?
+returns-2 c = mark-dead _ _ _ _ _ (c .before .before .before .before .find .ensures) (c .before .before .before .if1 .left) (c .before .deleted-of .ensures) (c .if2 .taken)
 
--- src/lib.rt:38:9
 with-mark-requires : tie.Need-with-mark-requires
 with-mark-requires c κs = search needs
 
--- src/lib.rt:39:11
 add-words : tie.Need-add-words
-add-words c = ?
+add-words c = omega (arith, found-within (c .before .before .before .before .before .before .before .before .pre .2) (c .before .before .before .before .before .find .ensures) (c .before .before .before .before .if1 .left))
 
--- src/lib.rt:39:5
 mul-words : tie.Need-mul-words
-mul-words c = ?
+mul-words c = omega (arith, found-within (c .before .before .before .before .before .before .before .before .pre .2) (c .before .before .before .before .before .find .ensures) (c .before .before .before .before .if1 .left))
 
--- src/lib.rt:39:5
 slice-write-words : tie.Need-slice-write-words
-slice-write-words c = ?
+slice-write-words c = found-within (c .before .before .before .before .before .before .before .before .pre .2) (c .before .before .before .before .before .find .ensures) (c .before .before .before .before .if1 .left)
 
--- src/lib.rt:26:1
 same-length : tie.Need-same-length
 same-length c = search needs
 
--- src/lib.rt:26:1
 returns-3 : tie.Need-returns-3
-returns-3 c = ?
+returns-3 c = mark-live _ _ _ _ _ (c .before .before .before .before .before .find .ensures) (c .before .before .before .before .if1 .left) (c .before .before .deleted-of .ensures) (c .before .if2 .left) (c .with-mark .ensures)
 
 pub mark-at-spec : {M : Type 1} → statement M
 mark-at-spec =
