@@ -1,34 +1,25 @@
+use Rattle.judge_tiers.proofs.Tiers.{ready-kept, tier-no, tier-yes}
 use borrow.Author.Needs.{needs}
 use Rattle.judge_tiers.proofs.tier_ok.Statement.{statement}
 use Rattle.judge_tiers.proofs.tier_ok.Tie as tie
-use Rattle.judge_tiers.proofs.tier_ok.Reads as reads
-use Rattle.judge_tiers.proofs.tier_ok.Lts as lts
-use Rattle.judge_tiers.proofs.entries_ok.Reads as entries-ok-reads
-use Rattle.judge_tiers.proofs.tier_covered.Reads as tier-covered-reads
 
--- src/lib.rt:194:9
 tier-covered-requires : tie.Need-tier-covered-requires
 tier-covered-requires c κs = search needs
 
--- src/lib.rt:195:9
 same-length : tie.Need-same-length
 same-length c = search needs
 
--- src/lib.rt:195:9
 returns : tie.Need-returns
-returns c = ?
+returns c = (tier-no _ _ _ _ _ _ _ (c .before .before .before .tier-covered .ensures .0) (c .if1 .taken), c .before .before .before .tier-covered .ensures .1)
 
--- src/lib.rt:197:5
 entries-ok-requires : tie.Need-entries-ok-requires
-entries-ok-requires c κs = ?
+entries-ok-requires c κs = let R = ready-kept (c .before .before .before .before .before .before .before .before .before .pre .0) (c .before .before .before .before .tier-covered .ensures .1) in ((R .room, R .listed, c .before .before .before .before .before .before .before .before .before .pre .1), R .lies)
 
--- src/lib.rt:181:1
 same-length-2 : tie.Need-same-length-2
 same-length-2 c = search needs
 
--- src/lib.rt:181:1
 returns-2 : tie.Need-returns-2
-returns-2 c = ?
+returns-2 c = let e = c .before .before .before .before .before .tier-covered .ensures in (tier-yes _ _ _ _ _ _ _ (e .0) (c .before .before .if1 .left) (c .entries-ok .ensures) (e .1), e .1)
 
 pub tier-ok-spec : {M : Type 1} → statement M
 tier-ok-spec =
