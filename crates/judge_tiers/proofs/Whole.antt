@@ -11,13 +11,15 @@ use borrow.Author.Tests.{leb-true}
 use Rattle.laws.specs.Fold.{allBelow, anyBelow}
 use Rattle.laws.specs.Lists.{at, listAt, takeEach}
 use Rattle.laws.proofs.Folds.{all-same, any-same, all-at, and-left, and-right}
-use Rattle.kinds.specs.Clauses.{endAt, deletedAt}
-use Rattle.kinds.specs.Lent.{Lent}
+use Rattle.kinds.specs.Clauses.{endAt, deletedAt, isLive}
+use Rattle.kinds.specs.Lent.{Lent, Host, lent}
+use Rattle.kinds.specs.declared.State.{State}
+use lib.Dec.{lit<}
 use Rattle.kinds.specs.Layout.{view}
 use Rattle.calls.specs.Size.{sized, tierSized, tiersSized}
-use Rattle.calls.specs.StorePasses.{liveAt, liveIn, standsAt, coveredAt, covered, refAt, insideAt, staleOk, entryOk, entriesOk, tierOk, tiersOk}
-use Rattle.judge_words.proofs.Whole.{live-same, live-in-same}
-use Rattle.judge_tiers.specs.Marking.{tierTest}
+use Rattle.calls.specs.StorePasses.{placed, clausesOk, wordsPass, liveAt, liveIn, standsAt, coveredAt, covered, refAt, insideAt, staleOk, entryOk, entriesOk, tierOk, tiersOk}
+use Rattle.judge_words.proofs.Whole.{live-same, live-in-same, words-whole, WordsSized}
+use Rattle.judge_tiers.specs.Marking.{tierTest, Ready}
 
 -- clause lists a and l that agree in their first n entries, tier lists b and tl in their first m
 module _ (w a l : List ℕ) (n : ℕ) (same : (i : ℕ) → i < n → at a i ≡ at l i) (b tl : List ℕ) (m : ℕ) (alike : (q : ℕ) → q < m → at b q ≡ at tl q) where
@@ -92,3 +94,29 @@ tiers-whole k h s = all-same (tierOk (view k)) (tierTest w used l n (k .tiers) (
         ap (λ (b : List ℕ). test t (length (take n l)) b (length b)) (take-each (k .state .tiers) (k .tiers) t)
         ∙ ap₂ (λ (x y : ℕ). test t x (take m tl) y) (length-take-le n l h) (length-take-le m tl (s t g))
         ∙ ap₂ (λ (x y : Bool). x && y) (covered-same w (take n l) l n same (take m tl) tl m alike t) (entries-same w (take n l) l n same (take m tl) tl m alike used)
+
+-- where the words and the clause list pass, `tiers_pass` may be asked
+pub ready-of : (k : Lent) → WordsSized k → wordsPass (view k) ≡ true → Ready (k .words) (k .state .vars) (k .state .words) (k .clauses) (k .state .clauses)
+ready-of k s e =
+    let w = k .words in
+    let l = k .clauses in
+    let n = k .state .clauses in
+    let p = sym (words-whole k (s .listed)) ∙ e in
+    record {
+      room = s .used;
+      listed = s .listed;
+      lies = and-left (placed w (k .state .words) l n) _ p;
+      good = and-left (clausesOk w (k .state .vars) l n) _ (and-right (placed w (k .state .words) l n) _ p);
+    }
+
+-- the test of refusal 6 on lent buffers, as `is_live` answers it
+pub live-whole : (k : Lent) (e : ℕ) → isLive (view k .words) (view k .clauses) e ≡ isLive (k .words) (take (k .state .clauses) (k .clauses)) e
+unfolding view
+live-whole k e = refl
+
+-- the four lists' lengths, as the `requires` of `tiers_pass` asks them
+pub lists-sized : (s : State) (words clauses irred core mid local rows counts rec : List ℕ) (host : Host) → tiersSized (lent s words clauses irred core mid local rows counts rec host) ≡ true
+    → (at (s .tiers) 0 ≤ length irred) × (at (s .tiers) 1 ≤ length core) × (at (s .tiers) 2 ≤ length mid) × (at (s .tiers) 3 ≤ length local)
+lists-sized s words clauses irred core mid local rows counts rec host e =
+    let f = tiers-sized (lent s words clauses irred core mid local rows counts rec host) e in
+    (f 0 (lit< tt), f 1 (lit< tt), f 2 (lit< tt), f 3 (lit< tt))
