@@ -5,6 +5,7 @@ use mathlib.Core.List.{List, [], _∷_}
 use Prim.Native.Nat.{ℕ, zero, suc, _+_, _<_}
 use native.Mathlib.Omega.{arith}
 use native.Mathlib.Decide.{ℕ-discrete}
+use native.Mathlib.Numerals.{add-one}
 use lib.ListN.{length}
 use lib.Dec.{eqb}
 use Rattle.laws.specs.Fold.{one, countBelow, sumBelow}
@@ -19,17 +20,31 @@ unfolding countBelow sumBelow
 count-sum f zero = refl
 count-sum f (suc n) = rw (count-sum f n)
 
--- ---- sums
+-- ---- sums, as a counting loop cites them
+
+module _ (f : ℕ → ℕ) where
+  pub sum-none : sumBelow f 0 ≡ 0
+  unfolding sumBelow
+  sum-none = refl
+
+  pub sum-more : (i : ℕ) → sumBelow f (i + 1) ≡ sumBelow f i + f i
+  unfolding sumBelow
+  sum-more i = rw add-one
+
+pub count-same : (f g : ℕ → Bool) (n : ℕ) → ((k : ℕ) → k < n → f k ≡ g k) → countBelow f n ≡ countBelow g n
+unfolding countBelow
+count-same f g zero h = refl
+count-same f g (suc n) h = ap₂ (λ (a : ℕ) (b : Bool). a + one b) (count-same f g n (λ k l. h k (omega arith))) (h n (omega arith))
 
 pub sum-same : (f g : ℕ → ℕ) (n : ℕ) → ((k : ℕ) → k < n → f k ≡ g k) → sumBelow f n ≡ sumBelow g n
 unfolding sumBelow
 sum-same f g zero h = refl
 sum-same f g (suc n) h = ap₂ (λ (x y : ℕ). x + y) (sum-same f g n (λ k l. h k (omega arith))) (h n (omega arith))
 
-pub sum-none : (f : ℕ → ℕ) (n : ℕ) → ((k : ℕ) → k < n → f k ≡ 0) → sumBelow f n ≡ 0
+pub sum-zeros : (f : ℕ → ℕ) (n : ℕ) → ((k : ℕ) → k < n → f k ≡ 0) → sumBelow f n ≡ 0
 unfolding sumBelow
-sum-none f zero h = refl
-sum-none f (suc n) h = omega (arith, sum-none f n (λ k l. h k (omega arith)), h n (omega arith))
+sum-zeros f zero h = refl
+sum-zeros f (suc n) h = omega (arith, sum-zeros f n (λ k l. h k (omega arith)), h n (omega arith))
 
 pub sum-add : (f g : ℕ → ℕ) (n : ℕ) → sumBelow (λ k. f k + g k) n ≡ sumBelow f n + sumBelow g n
 unfolding sumBelow
@@ -49,13 +64,13 @@ sum-single f zero x l h = absurd (omega arith)
 sum-single f (suc n) x l h = go (ℕ-discrete x n) (sum-single f n x)
   where
     go : Dec (x ≡ n) → (x < n → ((k : ℕ) → k < n → (k ≡ x → ⊥) → f k ≡ 0) → sumBelow f n ≡ f x) → sumBelow f n + f n ≡ f x
-    go (yes e) r = omega (arith, sum-none f n (λ k m. h k (omega arith) (λ q. omega arith)), ap f e)
+    go (yes e) r = omega (arith, sum-zeros f n (λ k m. h k (omega arith) (λ q. omega arith)), ap f e)
     go (no e) r = omega (arith, r (omega arith) (λ k m q. h k (omega arith) q), h n (omega arith) (λ q. e (sym q)))
 
 -- the order of two sums
 pub sum-swap : (f : ℕ → ℕ → ℕ) (n m : ℕ) → sumBelow (λ i. sumBelow (λ j. f i j) m) n ≡ sumBelow (λ j. sumBelow (λ i. f i j) n) m
 unfolding sumBelow
-sum-swap f zero m = sym (sum-none (λ j. 0) m (λ k l. refl))
+sum-swap f zero m = sym (sum-zeros (λ j. 0) m (λ k l. refl))
 sum-swap f (suc n) m = ap (λ (x : ℕ). x + sumBelow (λ j. f n j) m) (sum-swap f n m) ∙ sym (sum-add (λ j. sumBelow (λ i. f i j) n) (λ j. f n j) m)
 
 -- ---- the entries of a list
@@ -79,7 +94,7 @@ count-places x (y ∷ l) = sum-first (λ k. one (eqb (at (y ∷ l) k) x)) (lengt
 -- those that pass, by their numbers
 pub passing-sum : (p : ℕ → Bool) (n : ℕ) (l : List ℕ) → ((k : ℕ) → k < length l → at l k < n) → sumBelow (λ b. cond (p b) (count b l) 0) n ≡ passing p l
 unfolding passing
-passing-sum p n [] h = sum-none (λ b. cond (p b) (count b []) 0) n (λ k m. go k (p k) (count-nil k))
+passing-sum p n [] h = sum-zeros (λ b. cond (p b) (count b []) 0) n (λ k m. go k (p k) (count-nil k))
   where
     go : (k : ℕ) (t : Bool) → count k [] ≡ 0 → cond t (count k []) 0 ≡ 0
     go k true e = e
