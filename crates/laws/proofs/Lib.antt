@@ -1,3 +1,4 @@
 pub mod Choices
 pub mod Folds
 pub mod Sorting
+pub mod Members
