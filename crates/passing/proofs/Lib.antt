@@ -1,1 +1,3 @@
 pub mod Store
+pub mod Good
+pub mod Tests
