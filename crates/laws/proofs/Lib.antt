@@ -2,3 +2,4 @@ pub mod Choices
 pub mod Folds
 pub mod Sorting
 pub mod Members
+pub mod Pushes

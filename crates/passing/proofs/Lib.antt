@@ -1,3 +1,5 @@
 pub mod Store
 pub mod Good
 pub mod Tests
+pub mod Heads
+pub mod Changes

@@ -187,6 +187,10 @@ chain-edit lo hi w u o e (x ∷ l) (h, k) m = go (chain-edit (endAt w x) hi w u 
         let s = end-same w u x (λ i f b. e .before i (omega arith)) in
         (h, subst (λ (y : ℕ). Chain y hi u l) (sym s) (ih n))
 
+-- another clause's words are as they were
+pub apart-same : (lo used : ℕ) (w u l : List ℕ) (o : ℕ) → Chain lo used w l → In o l → Edit w u o → (x : ℕ) → In x l → (x ≡ o → ⊥) → Same x (endAt w x) w u
+apart-same lo used w u l o c m e x n d i a b = ⊎-elim (λ z. e .before i (omega arith)) (λ z. e .behind i (omega arith)) (chain-apart lo used w l c x o n m d)
+
 -- what else changes with it
 pub record Change (v : ℕ) (w u : List ℕ) (cs cs' : List ℕ) (g g' : ℕ) (ts ts' : List (List ℕ)) (p p' : List ℕ) (o : ℕ) : Type 0 where
   pub edit : Edit w u o
@@ -207,10 +211,8 @@ tier-small w o = omega arith
 
 module _ {v : ℕ} {w u : List ℕ} {used : ℕ} {l cs cs' : List ℕ} {g g' : ℕ} {ts ts' : List (List ℕ)} {p p' : List ℕ} {o : ℕ}
     (S : Store v w used l cs g ts p) (m : In o l) (live : deletedAt w o ≡ false) (C : Change v w u cs cs' g g' ts ts' p p' o) where
-  -- another clause's words are as they were
-  pub other-same : (x : ℕ) → In x l → (x ≡ o → ⊥) → Same x (endAt w x) w u
-  other-same x n d i a b =
-      ⊎-elim (λ z. C .edit .before i (omega arith)) (λ z. C .edit .behind i (omega arith)) (chain-apart 0 used w l (S .chain) x o n m d)
+  other-same : (x : ℕ) → In x l → (x ≡ o → ⊥) → Same x (endAt w x) w u
+  other-same x n d = apart-same 0 used w u l o (S .chain) m (C .edit) x n d
 
   clause-kept : (x : ℕ) → In x l → deletedAt u x ≡ false → Sound u v x
   clause-kept x n d = go (ℕ-discrete x o)
