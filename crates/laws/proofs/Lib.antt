@@ -3,3 +3,4 @@ pub mod Folds
 pub mod Sorting
 pub mod Members
 pub mod Pushes
+pub mod Written

@@ -3,3 +3,4 @@ pub mod Good
 pub mod Tests
 pub mod Heads
 pub mod Changes
+pub mod AddClause
