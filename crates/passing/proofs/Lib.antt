@@ -4,3 +4,4 @@ pub mod Tests
 pub mod Heads
 pub mod Changes
 pub mod AddClause
+pub mod Striking
