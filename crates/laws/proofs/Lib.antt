@@ -4,3 +4,4 @@ pub mod Sorting
 pub mod Members
 pub mod Pushes
 pub mod Written
+pub mod Sums

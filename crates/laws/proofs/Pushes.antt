@@ -40,6 +40,13 @@ module _ (ts : List (List ℕ)) (t o : ℕ) (h : t < length ts) where
       go (yes e) = subst (λ (z : ℕ). In x (listAt ts z) ⊎ (x ≡ o)) (sym e) (in-snoc x o (listAt ts t) (subst (λ (l : List ℕ). In x l) pushed-here (subst (λ (z : ℕ). In x (listAt (push t o ts) z)) e m)))
       go (no n) = inl (subst (λ (l : List ℕ). In x l) (pushed-other k n) m)
 
+  pub pushed-cases : (k x : ℕ) → In x (listAt (push t o ts) k) → In x (listAt ts k) ⊎ ((x ≡ o) × (k ≡ t))
+  pushed-cases k x m = go (ℕ-discrete k t)
+    where
+      go : Dec (k ≡ t) → In x (listAt ts k) ⊎ ((x ≡ o) × (k ≡ t))
+      go (yes e) = ⊎-elim (λ n. inl n) (λ q. inr (q, e)) (push-cases k x m)
+      go (no n) = inl (subst (λ (l : List ℕ). In x l) (pushed-other k n) m)
+
 pub length-push : (ts : List (List ℕ)) (t o : ℕ) → length (push t o ts) ≡ length ts
 length-push ts t o = length-set ts t (snoc (listAt ts t) o)
 

@@ -5,3 +5,4 @@ pub mod Heads
 pub mod Changes
 pub mod AddClause
 pub mod Striking
+pub mod Rows
