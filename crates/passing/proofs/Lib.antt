@@ -6,3 +6,5 @@ pub mod Changes
 pub mod AddClause
 pub mod Striking
 pub mod Rows
+pub mod Dropping
+pub mod Rescale
