@@ -5,3 +5,4 @@ pub mod Members
 pub mod Pushes
 pub mod Written
 pub mod Sums
+pub mod Distinct

@@ -8,3 +8,4 @@ pub mod Striking
 pub mod Rows
 pub mod Dropping
 pub mod Rescale
+pub mod Reduce
