@@ -9,3 +9,4 @@ pub mod Rows
 pub mod Dropping
 pub mod Rescale
 pub mod Reduce
+pub mod Units
