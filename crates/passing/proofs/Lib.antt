@@ -10,3 +10,4 @@ pub mod Dropping
 pub mod Rescale
 pub mod Reduce
 pub mod Units
+pub mod Collect
