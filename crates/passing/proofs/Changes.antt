@@ -160,7 +160,7 @@ module _ {v : ℕ} {w : List ℕ} {used : ℕ} {l cs : List ℕ} {g : ℕ} {ts :
 
   -- "Deleting adds length + 3 to garbage": the deleted bit, one less of its tier
   module _ (p' : List ℕ) (still : (x : ℕ) → (x ≡ o → ⊥) → In x p → In x p') where
-    deleted-there : deletedAt (changeHead (withDeleted true) o w) o ≡ true
+    pub deleted-there : deletedAt (changeHead (withDeleted true) o w) o ≡ true
     deleted-there = eq-eqb _ 1 (ap deletedOf (head-put w o (withDeleted true) head-room) ∙ deleted-put (headAt w o))
 
     removed-change : Change v w (changeHead (withDeleted true) o w) cs (less (tierAt w o) cs) g (g + sizeAt w o) ts ts p p' o

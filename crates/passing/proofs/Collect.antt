@@ -30,12 +30,12 @@ use Rattle.passing.proofs.Rescale.{Whole}
 
 -- ---- words read, one behind the other
 
-read-length : (w : List ℕ) (o n : ℕ) → length (readN w o n) ≡ n
+pub read-length : (w : List ℕ) (o n : ℕ) → length (readN w o n) ≡ n
 unfolding readN
 read-length w o zero = refl
 read-length w o (suc n) = ap suc (read-length w (suc o) n)
 
-read-at : (w : List ℕ) (o n j : ℕ) → j < n → at (readN w o n) j ≡ at w (o + j)
+pub read-at : (w : List ℕ) (o n j : ℕ) → j < n → at (readN w o n) j ≡ at w (o + j)
 unfolding readN
 read-at w o zero j h = absurd (not-suc-le-zero h)
 read-at w o (suc n) zero h = ap (at w) (let e : o ≡ o + zero = omega arith in e)

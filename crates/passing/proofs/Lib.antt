@@ -11,3 +11,4 @@ pub mod Rescale
 pub mod Reduce
 pub mod Units
 pub mod Collect
+pub mod Literals
