@@ -12,3 +12,4 @@ pub mod Reduce
 pub mod Units
 pub mod Collect
 pub mod Literals
+pub mod Simplify

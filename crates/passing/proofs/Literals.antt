@@ -41,10 +41,10 @@ lits-vars w v s zero c = tt
 lits-vars w v s (suc n) c = (
   subst (λ (z : ℕ). at w z < 2 * v) (plus-zero s) (c .below 0 (omega arith)),
   (λ y m e.
-    let r = in-place y (readN w (suc s) n) m in
-    let k : r .0 < n = let q = read-length w (suc s) n in let z = r .1 in omega arith in
-    let there : at w (s + suc (r .0)) ≡ y = ap (at w) (shift s (r .0)) ∙ sym (read-at w (suc s) n (r .0) k) ∙ r .2 in
-    c .apart (suc (r .0)) 0 (omega arith) (omega arith) (ap (λ (z : ℕ). varOf (at w z)) (plus-zero s) ∙ sym e ∙ ap varOf (sym there))),
+      let r = in-place y (readN w (suc s) n) m in
+      let k : r .0 < n = let q = read-length w (suc s) n in let z = r .1 in omega arith in
+      let there : at w (s + suc (r .0)) ≡ y = ap (at w) (shift s (r .0)) ∙ sym (read-at w (suc s) n (r .0) k) ∙ r .2 in
+      c .apart (suc (r .0)) 0 (omega arith) (omega arith) (ap (λ (z : ℕ). varOf (at w z)) (plus-zero s) ∙ sym e ∙ ap varOf (sym there))),
   lits-vars w v (suc s) n (record {
     below = λ j h. subst (λ (z : ℕ). at w z < 2 * v) (shift s j) (c .below (suc j) (omega arith));
     apart = λ j k h f e. c .apart (suc j) (suc k) (omega arith) (omega arith) (ap (λ (z : ℕ). varOf (at w z)) (shift s k) ∙ e ∙ ap (λ (z : ℕ). varOf (at w z)) (sym (shift s j)));
