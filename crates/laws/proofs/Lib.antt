@@ -1,5 +1,7 @@
 pub mod Choices
+pub mod Fills
 pub mod Folds
+pub mod Reading
 pub mod Sorting
 pub mod Members
 pub mod Pushes
