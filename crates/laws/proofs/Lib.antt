@@ -5,6 +5,5 @@ pub mod Reading
 pub mod Sorting
 pub mod Members
 pub mod Pushes
-pub mod Written
-pub mod Sums
+pub mod Tables
 pub mod Distinct

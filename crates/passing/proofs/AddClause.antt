@@ -13,7 +13,7 @@ use borrow.Author.Tests.{eq-eqb, ne-eqb}
 use Rattle.laws.specs.Lists.{at, listAt, snoc, push, more}
 use Rattle.laws.proofs.Members.{In, in-left, in-last, in-snoc, sumList, sum-append, sum-same}
 use Rattle.laws.proofs.Pushes.{in-pushed, in-push, push-cases, length-push, more-here, more-other, length-more}
-use Rattle.laws.proofs.Written.{written-before, written-at}
+use Rattle.laws.proofs.Reading.{at-sets-below, at-sets}
 use Rattle.kinds.specs.Header.{tierOf, deletedOf, markOf, glueOf, spareOf, newHead}
 use Rattle.kinds.specs.Clauses.{headAt, lenAt, firstAt, sizeAt, endAt, tierAt, deletedAt, varOf}
 use Rattle.kinds.specs.Floats.{limitBits}
@@ -39,13 +39,13 @@ module _ {v : ℕ} {w : List ℕ} {used : ℕ} {l cs : List ℕ} {g : ℕ} {ts :
   u = sets w used (newWords t gl ls)
 
   old : Same 0 used w u
-  old i a b = written-before w used (newWords t gl ls) i b
+  old i a b = at-sets-below (newWords t gl ls) w used i b
 
   own : (x : ℕ) → In x l → Same x (endAt w x) w u
   own x m i a b = let z = chain-in 0 used w l (S .chain) x m .1 in old i (omega arith) (omega arith)
 
   new : (j : ℕ) → j < length ls + 3 → at u (used + j) ≡ at (newWords t gl ls) j
-  new j h = written-at w used (newWords t gl ls) j (omega arith) (omega arith)
+  new j h = at-sets (newWords t gl ls) w used j (omega arith) (omega arith)
 
   new-activity : at u used ≡ 0
   new-activity = let e : used + 0 ≡ used = omega arith in subst (λ (k : ℕ). at u k ≡ 0) e (new 0 (omega arith))

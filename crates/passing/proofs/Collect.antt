@@ -15,6 +15,8 @@ use Rattle.laws.specs.Fold.{one, foldList}
 use Rattle.laws.specs.Lists.{at, listAt, readN, joined, starts, fill}
 use Rattle.laws.proofs.Members.{In, in-nil, in-head, in-tail, in-cases, in-at, sumList}
 use Rattle.laws.proofs.Pushes.{at-other, at-same}
+use Rattle.laws.proofs.Reading.{length-read, at-read}
+use Rattle.laws.proofs.Fills.{at-fill-in, length-fill}
 use Rattle.kinds.specs.Header.{tierOf, deletedOf, markOf, glueOf, spareOf}
 use Rattle.kinds.specs.Clauses.{headAt, lenAt, firstAt, sizeAt, endAt, tierAt, deletedAt, wordsAt, undeleted, varOf}
 use Rattle.kinds.specs.Floats.{limitBits}
@@ -27,19 +29,6 @@ use Rattle.passing.proofs.Good.{Quiet, ReasonIn, Reasons, Sided, Good}
 use Rattle.passing.proofs.Changes.{words-live, words-gone}
 use Rattle.passing.proofs.Dropping.{drop-store, drop-quiet, drop-reasons, all-dropped, undeleted-live, live-undeleted}
 use Rattle.passing.proofs.Rescale.{Whole}
-
--- ---- words read, one behind the other
-
-pub read-length : (w : List ℕ) (o n : ℕ) → length (readN w o n) ≡ n
-unfolding readN
-read-length w o zero = refl
-read-length w o (suc n) = ap suc (read-length w (suc o) n)
-
-pub read-at : (w : List ℕ) (o n j : ℕ) → j < n → at (readN w o n) j ≡ at w (o + j)
-unfolding readN
-read-at w o zero j h = absurd (not-suc-le-zero h)
-read-at w o (suc n) zero h = ap (at w) (let e : o ≡ o + zero = omega arith in e)
-read-at w o (suc n) (suc j) h = read-at w (suc o) n j (le-of-suc-le-suc h) ∙ ap (at w) (let e : suc o + j ≡ o + suc j = omega arith in e)
 
 -- ---- the clause at o in w stands at n in u
 
@@ -100,14 +89,14 @@ Laid u k ws = (j : ℕ) → j < length ws → at u (k + j) ≡ at ws j
 
 module _ (w u : List ℕ) (k o : ℕ) (os : List ℕ) (b : Laid u k (joined (blocks w (o ∷ os)))) where
   block-length : length (wordsAt w o) ≡ sizeAt w o
-  block-length = read-length w o (sizeAt w o)
+  block-length = length-read w o (sizeAt w o)
 
   first-copy : Copy w u o k
   unfolding blocks joined
   first-copy j h =
       let e = block-length in
       let a = length-append (wordsAt w o) (joined (blocks w os)) in
-      b j (omega arith) ∙ List·getD-append (wordsAt w o) (joined (blocks w os)) 0 j (omega arith) ∙ read-at w o (sizeAt w o) j h
+      b j (omega arith) ∙ List·getD-append (wordsAt w o) (joined (blocks w os)) 0 j (omega arith) ∙ at-read w o (sizeAt w o) j h
 
   rest-laid : Laid u (k + length (wordsAt w o)) (joined (blocks w os))
   unfolding blocks joined
@@ -302,8 +291,7 @@ module _ (h : Held) (d : Whole h []) where
   u = fill w (h .used) all
 
   laid : Laid u 0 all
-  unfolding fill
-  laid j k = ap (at u) (let e : 0 + j ≡ j = omega arith in e) ∙ List·getD-append all (replicate (h .used - length all) 0 ++ drop (max (h .used) (length all)) w) 0 j k
+  laid j k = ap (at u) (let e : 0 + j ≡ j = omega arith in e) ∙ at-fill-in w (h .used) all j k
 
   room : length all ≤ length u
   unfolding fill

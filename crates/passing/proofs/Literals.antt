@@ -11,14 +11,13 @@ use lib.Dec.{eqb, ltb}
 use borrow.Author.Tests.{ltb-false}
 use Rattle.laws.specs.Fold.{one}
 use Rattle.laws.specs.Lists.{at, readN}
-use Rattle.laws.proofs.Folds.{or-right}
+use Rattle.laws.proofs.Reading.{length-read, at-read}
 use Rattle.laws.proofs.Members.{In, in-nil, in-head, in-tail, in-cases, in-at, in-place}
 use Rattle.kinds.specs.Clauses.{varOf}
 use Rattle.kinds.specs.Held.{isTrue, isOpen, isFalse}
 use Rattle.calls.specs.Refusing.{openCount, lacking}
 use Rattle.calls.specs.Simplifying.{anyTrue, unfalsified}
 use Rattle.calls.proofs.Readings.{Lits}
-use Rattle.passing.proofs.Collect.{read-length, read-at}
 
 abbrev pub Vars : ℕ → List ℕ → Type 0
 Vars v [] = Unit {0}
@@ -42,8 +41,8 @@ lits-vars w v s (suc n) c = (
   subst (λ (z : ℕ). at w z < 2 * v) (plus-zero s) (c .below 0 (omega arith)),
   (λ y m e.
       let r = in-place y (readN w (suc s) n) m in
-      let k : r .0 < n = let q = read-length w (suc s) n in let z = r .1 in omega arith in
-      let there : at w (s + suc (r .0)) ≡ y = ap (at w) (shift s (r .0)) ∙ sym (read-at w (suc s) n (r .0) k) ∙ r .2 in
+      let k : r .0 < n = let q = length-read w (suc s) n in let z = r .1 in omega arith in
+      let there : at w (s + suc (r .0)) ≡ y = ap (at w) (shift s (r .0)) ∙ sym (at-read w (suc s) n (r .0) k) ∙ r .2 in
       c .apart (suc (r .0)) 0 (omega arith) (omega arith) (ap (λ (z : ℕ). varOf (at w z)) (plus-zero s) ∙ sym e ∙ ap varOf (sym there))),
   lits-vars w v (suc s) n (record {
     below = λ j h. subst (λ (z : ℕ). at w z < 2 * v) (shift s j) (c .below (suc j) (omega arith));

@@ -15,7 +15,7 @@ use Rattle.laws.specs.Counts.{is, count}
 use Rattle.laws.proofs.Sorting.{is-same, is-other, count-cons, count-nil}
 use Rattle.laws.proofs.Members.{In, in-nil, in-head, in-tail, in-cases, sum-below-same}
 use Rattle.laws.proofs.Pushes.{pushed-here, pushed-other, pushed-cases, length-push}
-use Rattle.laws.proofs.Sums.{sum-below-add, sum-below-is, length-counts, count-in, symmetric-sum, count-push, length-joined}
+use Rattle.laws.proofs.Tables.{sum-below-add, sum-below-is, length-counts, count-in, symmetric-sum, count-push, length-joined}
 use Rattle.kinds.specs.Clauses.{varOf, neg}
 use Rattle.kinds.specs.Held.{byteOf, isOpen}
 use Rattle.calls.specs.Adding.{pairPushed}

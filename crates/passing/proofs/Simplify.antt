@@ -13,7 +13,7 @@ use borrow.Author.Tests.{eqb-true, eqb-false}
 use Rattle.laws.specs.Fold.{foldList, one}
 use Rattle.laws.specs.Lists.{at, listAt, readN, snoc}
 use Rattle.laws.proofs.Members.{In, in-head, in-tail, in-right, Distinct}
-use Rattle.laws.proofs.Written.{written-before, written-behind, written-at}
+use Rattle.laws.proofs.Reading.{at-sets-below, at-sets-above, at-sets, length-read, read-same}
 use Rattle.kinds.specs.Header.{withDeleted}
 use Rattle.kinds.specs.Clauses.{headAt, lenAt, sizeAt, endAt, tierAt, deletedAt, litsAt, originalAt, changeHead, varOf}
 use Rattle.kinds.specs.Floats.{limitBits}
@@ -31,18 +31,12 @@ use Rattle.passing.proofs.Striking.{Still, still-all, noted-good, remov
 use Rattle.passing.proofs.Dropping.{drop-store, drop-quiet, drop-reasons, passed-on}
 use Rattle.passing.proofs.Rescale.{Whole}
 use Rattle.passing.proofs.Rows.{pair-even, cleaned-even}
-use Rattle.passing.proofs.Collect.{read-length}
 use Rattle.passing.proofs.Literals.{Vars, vars-below, vars-apart, lits-vars, unfalsified-vars, unfalsified-most, two-left}
 
 -- ---- a clause's literals depend on its own words
 
-read-same : (w u : List ℕ) (o n : ℕ) → SameWords o (o + n) w u → readN u o n ≡ readN w o n
-unfolding readN
-read-same w u o zero s = refl
-read-same w u o (suc n) s = ap₂ (λ (x : ℕ) (l : List ℕ). x ∷ l) (s o (omega arith) (omega arith)) (read-same w u (suc o) n (λ i a b. s i (omega arith) (omega arith)))
-
 lits-same : (w u : List ℕ) (o : ℕ) → SameWords o (endAt w o) w u → litsAt u o ≡ litsAt w o
-lits-same w u o s = ap (readN u (o + 3)) (len-same w u o s) ∙ read-same w u (o + 3) (lenAt w o) (λ i a b. s i (omega arith) (omega arith))
+lits-same w u o s = ap (readN u (o + 3)) (len-same w u o s) ∙ read-same u w (o + 3) (o + 3) (lenAt w o) (λ j h. s (o + 3 + j) (omega arith) (omega arith))
 
 -- ---- the shorter form over the front
 
@@ -55,21 +49,21 @@ module _ {v : ℕ} {w : List ℕ} {used : ℕ} {l cs : List ℕ} {g : ℕ} {ts :
   room = let a = chain-in 0 used w l (S .chain) o m .1 in let b = S .room in omega arith
 
   short-len : lenAt short o ≡ length ls
-  short-len = ap (at short) (let e : o + 2 ≡ o + 2 + 0 = omega arith in e) ∙ written-at w (o + 2) (length ls ∷ ls) 0 (let z = room in omega arith) (omega arith)
+  short-len = ap (at short) (let e : o + 2 ≡ o + 2 + 0 = omega arith in e) ∙ at-sets (length ls ∷ ls) w (o + 2) 0 (omega arith) (let z = room in omega arith)
 
   short-lit : (j : ℕ) → j < length ls → at short (o + 3 + j) ≡ at ls j
-  short-lit j h = ap (at short) (let e : o + 3 + j ≡ o + 2 + suc j = omega arith in e) ∙ written-at w (o + 2) (length ls ∷ ls) (suc j) (let z = room in omega arith) (omega arith)
+  short-lit j h = ap (at short) (let e : o + 3 + j ≡ o + 2 + suc j = omega arith in e) ∙ at-sets (length ls ∷ ls) w (o + 2) (suc j) (omega arith) (let z = room in omega arith)
 
   short-head : headAt short o ≡ headAt w o
-  short-head = written-before w (o + 2) (length ls ∷ ls) (o + 1) (omega arith)
+  short-head = at-sets-below (length ls ∷ ls) w (o + 2) (o + 1) (omega arith)
 
   short-live : deletedAt short o ≡ false
   short-live = rw short-head live
 
   pub short-edit : Edit w short o
   short-edit = record {
-    before = λ i h. written-before w (o + 2) (length ls ∷ ls) i (omega arith);
-    behind = λ i h. written-behind w (o + 2) (length ls ∷ ls) i (omega arith);
+    before = λ i h. at-sets-below (length ls ∷ ls) w (o + 2) i (omega arith);
+    behind = λ i h. at-sets-above (length ls ∷ ls) w (o + 2) i (omega arith);
     shorter = let e = short-len in omega arith;
   }
 
@@ -108,7 +102,7 @@ module _ {v : ℕ} {w : List ℕ} {used : ℕ} {l cs : List ℕ} {g : ℕ} {ts :
   })
 
   pub short-quiet : Quiet w l → Quiet short l
-  short-quiet q = quiet-frame S m short-edit (λ z. rw (written-before w (o + 2) (length ls ∷ ls) o (omega arith)) (q o m live)) q
+  short-quiet q = quiet-frame S m short-edit (λ z. rw (at-sets-below (length ls ∷ ls) w (o + 2) o (omega arith)) (q o m live)) q
 
 -- ---- the walk: what is done stands in the clause list, os lies ahead
 
@@ -193,7 +187,7 @@ module _ (s : Side) (bare : s .trail ≡ []) where
         two = two-left (s .values) (litsAt (k .words) o) (r .ready o (in-head o os) live) quiet
 
         most : length ls ≤ lenAt (k .words) o
-        most = let a = unfalsified-most (s .values) (litsAt (k .words) o) in let b = read-length (k .words) (o + 3) (lenAt (k .words) o) in omega arith
+        most = let a = unfalsified-most (s .values) (litsAt (k .words) o) in let b = length-read (k .words) (o + 3) (lenAt (k .words) o) in omega arith
 
         noted-shorter : Good (shorterNoted ls o k) l []
         unfolding shorterNoted strikeNoted
