@@ -164,6 +164,16 @@ chain-sum u (o ∷ l) lo hi (a, c) =
     let s = size-most u o in
     omega arith
 
+-- and so do all its words
+chain-words : (w os : List ℕ) (lo hi : ℕ) → Chain lo hi w os → lo + length (joined (blocks w os)) ≤ hi
+unfolding blocks joined
+chain-words w [] lo hi c = omega arith
+chain-words w (o ∷ os) lo hi (a, c) =
+    let r = chain-words w os (endAt w o) hi c in
+    let e = length-append (wordsAt w o) (joined (blocks w os)) in
+    let n = length-read w o (sizeAt w o) in
+    omega arith
+
 -- ---- "tier lists are rebuilt in that order"
 
 by-tier : (u os : List ℕ) (t : ℕ) → t < 4 → listAt (byTier u os) t ≡ ofTier u t os
@@ -197,7 +207,7 @@ in-of-tier u (o ∷ os) x m = go (in-of-tier u os x) (in-cases x o os m) (eqb (t
 -- ---- the host's side
 
 module _ (s : Side) (old new : List ℕ) where
-  follow-length : (ls rs : List ℕ) → length (foldList (followed s old new) rs ls) ≡ length rs
+  pub follow-length : (ls rs : List ℕ) → length (foldList (followed s old new) rs ls) ≡ length rs
   unfolding foldList followed
   follow-length [] rs = refl
   follow-length (l ∷ ls) rs = follow-length ls (followed s old new rs l) ∙ go (eqb (kindOf s l) 3)
@@ -299,6 +309,12 @@ module _ (h : Held) (d : Whole h []) where
 
   S : Store (h .vars) w (h .used) old (h .counts) (h .garbage) (h .tiers) []
   S = all-dropped w (λ (k : List ℕ). Store (h .vars) w (h .used) k (h .counts) (h .garbage) (h .tiers) []) (λ a o b e. drop-store w a o b e) (h .clauses) (d .store)
+
+  pub closed-long : length u ≡ length w
+  closed-long =
+      let a = chain-words w old 0 (h .used) (S .chain) in
+      let b = d .store .room in
+      length-fill w (h .used) all b (omega arith)
 
   chain : Chain 0 (length all) u new
   chain = subst (λ (z : ℕ). Chain 0 z u new) (let e : 0 + length all ≡ length all = omega arith in e) (new-chain w u old 0 laid)

@@ -13,3 +13,4 @@ pub mod Units
 pub mod Collect
 pub mod Literals
 pub mod Simplify
+pub mod Keeps
