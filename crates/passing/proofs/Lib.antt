@@ -14,3 +14,4 @@ pub mod Collect
 pub mod Literals
 pub mod Simplify
 pub mod Keeps
+pub mod Sizes
