@@ -15,3 +15,5 @@ pub mod Literals
 pub mod Simplify
 pub mod Keeps
 pub mod Sizes
+pub mod Asked
+pub mod Preserved
