@@ -1,9 +1,9 @@
 -- Lists without repeated entries: one more at the end, sorted. Assumes nothing.
-use mathlib.Core.Path.{_≡_, refl, sym, ap, _∙_, subst}
+use mathlib.Core.Path.{_≡_, sym, subst}
 use mathlib.Core.Bool.{Bool, true, false, cond}
 use mathlib.Core.Logic.{⊎-elim, _⊎_, inl, inr}
-use mathlib.Core.List.{List, [], _∷_, _++_}
-use Prim.Native.Nat.{ℕ, _+_, _≤_, _<_}
+use mathlib.Core.List.{List, [], _∷_}
+use Prim.Native.Nat.{ℕ}
 use lib.Dec.{leb}
 use Rattle.laws.specs.Lists.{snoc, insert, sortBy}
 use Rattle.laws.proofs.Members.{In, in-nil, in-head, in-tail, in-cases, in-snoc, Distinct}

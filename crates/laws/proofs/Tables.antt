@@ -1,20 +1,19 @@
 -- Sums over places: of a symmetric table, of the counts of a list's entries. Assumes nothing.
-use mathlib.Core.Path.{_≡_, refl, sym, ap, ap₂, _∙_, subst}
-use mathlib.Core.Bool.{Bool, true, false, _&&_}
-use mathlib.Core.Logic.{⊎-elim, _⊎_, inl, inr}
-use mathlib.Core.List.{List, [], _∷_, _++_}
-use Prim.Native.Nat.{ℕ, zero, suc, _+_, _*_, _≤_, _<_}
+use mathlib.Core.Path.{_≡_, refl, sym, ap, _∙_, subst}
+use mathlib.Core.Bool.{Bool, false, _&&_}
+use mathlib.Core.List.{List, [], _∷_}
+use Prim.Native.Nat.{ℕ, zero, suc, _+_, _*_, _<_}
 use native.Mathlib.Nat.{not-suc-le-zero}
-use native.Mathlib.Decide.{ℕ-discrete, decLe}
+use native.Mathlib.Decide.{ℕ-discrete}
 use native.Mathlib.Omega.{arith}
 use lib.ListN.{length, length-append}
 use lib.Dec.{eqb}
 use borrow.Author.Tests.{eq-eqb, ne-eqb}
 use Rattle.laws.specs.Fold.{one, sumBelow}
-use Rattle.laws.specs.Lists.{at, listAt, snoc, push, joined}
+use Rattle.laws.specs.Lists.{listAt, push, joined}
 use Rattle.laws.specs.Counts.{is, count}
-use Rattle.laws.proofs.Sorting.{is-same, is-other, is-pos, count-cons, count-nil, count-append}
-use Rattle.laws.proofs.Members.{In, in-nil, in-head, in-tail, in-cases, sum-below-same, sum-below-first}
+use Rattle.laws.proofs.Sorting.{is-same, is-other, count-cons, count-nil, count-append}
+use Rattle.laws.proofs.Members.{In, in-head, in-tail, sum-below-same, sum-below-first}
 use Rattle.laws.proofs.Pushes.{pushed-here, pushed-other}
 
 pub sum-below-add : (f g : ℕ → ℕ) (n : ℕ) → sumBelow (λ (i : ℕ). f i + g i) n ≡ sumBelow f n + sumBelow g n

@@ -1,27 +1,27 @@
 -- Adding a long clause keeps what passing says. Assumes nothing.
-use mathlib.Core.Path.{_≡_, refl, sym, ap, ap₂, _∙_, subst}
-use mathlib.Core.Bool.{Bool, true, false, not, _&&_, true≢false}
-use mathlib.Core.Logic.{⊎-elim, _⊎_, inl, inr}
-use mathlib.Core.List.{List, [], _∷_, _++_}
-use Prim.Native.Nat.{ℕ, zero, suc, _+_, _-_, _*_, _≤_, _<_}
+use mathlib.Core.Path.{_≡_, sym, ap, _∙_, subst}
+use mathlib.Core.Bool.{false}
+use mathlib.Core.Logic.{⊎-elim, inl, inr}
+use mathlib.Core.List.{List, [], _∷_}
+use Prim.Native.Nat.{ℕ, suc, _+_, _*_, _≤_, _<_}
 use native.Mathlib.Decide.{ℕ-discrete}
 use native.Mathlib.Omega.{arith}
 use lib.ListN.{length}
 use lib.Seq.{sets, length-sets}
 use lib.Dec.{eqb}
-use borrow.Author.Tests.{eq-eqb, ne-eqb}
+use borrow.Author.Tests.{ne-eqb}
 use Rattle.laws.specs.Lists.{at, listAt, snoc, push, more}
-use Rattle.laws.proofs.Members.{In, in-left, in-last, in-snoc, sumList, sum-append, sum-same}
+use Rattle.laws.proofs.Members.{In, in-left, in-last, in-snoc, sum-append, sum-same}
 use Rattle.laws.proofs.Pushes.{in-pushed, in-push, push-cases, length-push, more-here, more-other, length-more}
 use Rattle.laws.proofs.Reading.{at-sets-below, at-sets}
-use Rattle.kinds.specs.Header.{tierOf, deletedOf, markOf, glueOf, spareOf, newHead}
-use Rattle.kinds.specs.Clauses.{headAt, lenAt, firstAt, sizeAt, endAt, tierAt, deletedAt, varOf}
+use Rattle.kinds.specs.Header.{tierOf, deletedOf, newHead}
+use Rattle.kinds.specs.Clauses.{headAt, lenAt, endAt, tierAt, deletedAt, varOf}
 use Rattle.kinds.specs.Floats.{limitBits}
-use Rattle.kinds.specs.Held.{Held, Side, kindOf, reasonWord}
+use Rattle.kinds.specs.Held.{Held, Side, reasonWord}
 use Rattle.calls.specs.Adding.{newWords, addedLong}
 use Rattle.calls.proofs.Readings.{Lits}
 use Rattle.passing.proofs.Store.{Sound, inTier, liveWords, chain-in, chain-same, chain-append, Stale, Live, Store, Same, deleted-same, tier-same, end-same, len-same, in-tier-same, live-words-same, sound-same}
-use Rattle.passing.proofs.Good.{Quiet, ReasonIn, Reasons, Good}
+use Rattle.passing.proofs.Good.{Quiet, Reasons, Good}
 use Rattle.passing.proofs.Heads.{new-tier, new-deleted, new-mark, new-spare, new-glue}
 use Rattle.passing.proofs.Changes.{in-tier-yes, in-tier-no, words-live}
 

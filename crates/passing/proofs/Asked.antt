@@ -2,22 +2,21 @@
 use mathlib.Core.Path.{_≡_, refl, sym, ap, _∙_, subst}
 use mathlib.Core.Bool.{Bool, true, false, cond, not, _&&_, _||_, true≢false}
 use mathlib.Core.List.{List, [], _∷_}
-use Prim.Native.Nat.{ℕ, zero, suc, _+_, _*_, _≤_, _<_}
+use Prim.Native.Nat.{ℕ, _≤_, _<_}
 use native.Mathlib.Omega.{arith}
 use lib.ListN.{length}
 use lib.Dec.{eqb, leb, ltb}
 use lib.Ieee.{Float}
-use borrow.Author.Tests.{leb-true, ltb-true, ltb-false, le-ltb, eqb-true, eq-eqb, ne-eqb, not-true, not-false}
-use Rattle.laws.specs.Fold.{anyBelow}
-use Rattle.laws.specs.Lists.{at, listAt, elem}
-use Rattle.laws.proofs.Folds.{and-both, and-left, and-right, or-left, or-right, any-at}
-use Rattle.laws.proofs.Members.{In, in-place}
-use Rattle.kinds.specs.Clauses.{tierAt, originalAt, litsAt, deletedAt, isLive, varOf}
+use borrow.Author.Tests.{leb-true, ltb-false, eq-eqb, ne-eqb, not-true, not-false}
+use Rattle.laws.specs.Lists.{elem}
+use Rattle.laws.proofs.Folds.{and-both, and-left, and-right, or-left, any-at}
+use Rattle.laws.proofs.Members.{in-place}
+use Rattle.kinds.specs.Clauses.{tierAt, originalAt, litsAt, deletedAt, isLive}
 use Rattle.kinds.specs.Floats.{decayOk}
 use Rattle.kinds.specs.Held.{Held, asserting}
 use Rattle.calls.specs.Call.{addClause, setTier, delete, addBinary, bump, setDecay, unitSimplify}
-use Rattle.calls.specs.StorePasses.{litsOk, liveAt}
-use Rattle.calls.specs.Refusing.{lowest, own, clauseWrong, tierWrong, glueWrong, notLive, irredChange, unready, lacking, longLacking, rowLacking, anyLacking}
+use Rattle.calls.specs.StorePasses.{liveAt}
+use Rattle.calls.specs.Refusing.{lowest, own, clauseWrong, tierWrong, glueWrong, notLive, irredChange, unready, lacking, longLacking, anyLacking}
 use Rattle.calls.specs.Outcome.{refusedFor}
 use Rattle.calls.proofs.Readings.{Lits, lits-read}
 use Rattle.passing.proofs.Store.{Live}

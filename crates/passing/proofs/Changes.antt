@@ -1,26 +1,26 @@
 -- Changes of one live clause: its tier, its deleted bit, its glue, its flag, its activity. Each keeps the store's rules. Assumes nothing.
 use mathlib.Core.Path.{_≡_, refl, sym, ap, ap₂, _∙_, subst}
 use mathlib.Core.Bool.{Bool, true, false, not, _&&_, true≢false}
-use mathlib.Core.Logic.{⊎-elim, _⊎_, inl, inr}
-use mathlib.Core.List.{List, [], _∷_, _++_}
-use Prim.Native.Nat.{ℕ, zero, suc, _+_, _-_, _*_, _/_, _%_, _^_, _≤_, _<_}
+use mathlib.Core.Logic.{_⊎_, inl}
+use mathlib.Core.List.{List}
+use Prim.Native.Nat.{ℕ, _+_, _*_, _≤_, _<_}
 use native.Mathlib.Decide.{ℕ-discrete}
 use native.Mathlib.Omega.{arith}
 use lib.ListN.{length, set, length-set}
 use lib.Dec.{eqb}
-use borrow.Author.Tests.{eq-eqb, ne-eqb, eqb-true, eqb-false}
+use borrow.Author.Tests.{eq-eqb, ne-eqb}
 use Rattle.laws.specs.Fold.{one}
 use Rattle.laws.specs.Lists.{at, listAt, push, more, less}
-use Rattle.laws.proofs.Members.{In, in-tail, sumList, sum-part}
+use Rattle.laws.proofs.Members.{In, sum-part}
 use Rattle.laws.proofs.Pushes.{at-other, at-same, in-pushed, in-push, push-cases, length-push, more-here, more-other, less-here, less-other, length-more, length-less}
-use Rattle.kinds.specs.Header.{tierOf, deletedOf, markOf, glueOf, spareOf, withTier, withDeleted, withGlue, withActive}
-use Rattle.kinds.specs.Clauses.{headAt, lenAt, firstAt, sizeAt, endAt, tierAt, deletedAt, varOf, changeHead}
+use Rattle.kinds.specs.Header.{tierOf, deletedOf, glueOf, withTier, withDeleted}
+use Rattle.kinds.specs.Clauses.{headAt, lenAt, sizeAt, tierAt, deletedAt, varOf, changeHead}
 use Rattle.kinds.specs.Floats.{limitBits}
 use Rattle.kinds.specs.Held.{Side, kindOf, reasonWord}
 use Rattle.calls.proofs.Readings.{Lits}
-use Rattle.passing.proofs.Store.{Sound, inTier, liveWords, chain-in, Store, Same, Edit, Change, apart-same, deleted-same, len-same, changed}
+use Rattle.passing.proofs.Store.{Sound, inTier, liveWords, chain-in, Store, Edit, Change, apart-same, deleted-same, len-same, changed}
 use Rattle.passing.proofs.Good.{Quiet, ReasonIn, Reasons}
-use Rattle.passing.proofs.Heads.{Plain, Alike, tier-put, tier-plain, tier-deleted, tier-glue, deleted-put, deleted-tier}
+use Rattle.passing.proofs.Heads.{Plain, tier-put, tier-plain, tier-deleted, tier-glue, deleted-put}
 
 -- ---- what a clause counts for
 

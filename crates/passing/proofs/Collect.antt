@@ -1,33 +1,29 @@
 -- Collecting keeps what passing says. Assumes nothing.
 use mathlib.Core.Path.{_≡_, refl, sym, ap, ap₂, _∙_, subst}
-use mathlib.Core.Bool.{Bool, true, false, cond, not, _&&_, _||_, true≢false}
+use mathlib.Core.Bool.{Bool, true, false, cond, true≢false}
 use mathlib.Core.Logic.{⊎-elim, _⊎_, inl, inr}
 use mathlib.Core.List.{List, [], _∷_, _++_}
 use Prim.Native.Nat.{ℕ, zero, suc, _+_, _-_, _*_, _≤_, _<_, max}
-use native.Mathlib.Nat.{le-of-suc-le-suc, not-suc-le-zero}
 use native.Mathlib.Decide.{ℕ-discrete}
 use native.Mathlib.Omega.{arith}
 use lib.ListN.{length, set, drop, replicate, length-set, length-append, List·getD-append}
 use lib.Seq.{getD-append-add}
 use lib.Dec.{eqb}
-use borrow.Author.Tests.{eq-eqb, ne-eqb, eqb-true, eqb-false}
-use Rattle.laws.specs.Fold.{one, foldList}
-use Rattle.laws.specs.Lists.{at, listAt, readN, joined, starts, fill}
+use borrow.Author.Tests.{eq-eqb, eqb-true, eqb-false}
+use Rattle.laws.specs.Fold.{foldList}
+use Rattle.laws.specs.Lists.{at, listAt, joined, starts, fill}
 use Rattle.laws.proofs.Members.{In, in-nil, in-head, in-tail, in-cases, in-at, sumList}
 use Rattle.laws.proofs.Pushes.{at-other, at-same}
 use Rattle.laws.proofs.Reading.{length-read, at-read}
 use Rattle.laws.proofs.Fills.{at-fill-in, length-fill}
-use Rattle.kinds.specs.Header.{tierOf, deletedOf, markOf, glueOf, spareOf}
-use Rattle.kinds.specs.Clauses.{headAt, lenAt, firstAt, sizeAt, endAt, tierAt, deletedAt, wordsAt, undeleted, varOf}
-use Rattle.kinds.specs.Floats.{limitBits}
-use Rattle.kinds.specs.Held.{Held, Side, withReasons, isTrue, isFalse, kindOf, reasonWord}
+use Rattle.kinds.specs.Clauses.{headAt, lenAt, sizeAt, endAt, tierAt, deletedAt, wordsAt, varOf}
+use Rattle.kinds.specs.Held.{Held, Side, kindOf, reasonWord}
 use Rattle.calls.specs.HostPasses.{onTrail, variableAt}
 use Rattle.calls.specs.Collecting.{due, blocks, oldPlaces, liveBlocks, newPlaces, ofTier, byTier, newPlace, followed, hostFollowed, closedUp, collected}
-use Rattle.calls.proofs.Readings.{Lits, TrailLit, HostSide}
-use Rattle.passing.proofs.Store.{Sound, inTier, liveWords, Chain, chain-le, Stale, Live, Store}
-use Rattle.passing.proofs.Good.{Quiet, ReasonIn, Reasons, Sided, Good}
+use Rattle.passing.proofs.Store.{Sound, inTier, liveWords, Chain, Live, Store}
+use Rattle.passing.proofs.Good.{Quiet, ReasonIn, Reasons, Sided}
 use Rattle.passing.proofs.Changes.{words-live, words-gone}
-use Rattle.passing.proofs.Dropping.{drop-store, drop-quiet, drop-reasons, all-dropped, undeleted-live, live-undeleted}
+use Rattle.passing.proofs.Dropping.{drop-store, all-dropped, undeleted-live, live-undeleted}
 use Rattle.passing.proofs.Rescale.{Whole}
 
 -- ---- the clause at o in w stands at n in u

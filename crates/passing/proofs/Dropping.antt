@@ -1,17 +1,16 @@
 -- Deleted entries may leave the clause list: what passing says stays. Assumes nothing.
-use mathlib.Core.Path.{_≡_, refl, sym, ap, ap₂, _∙_, subst}
+use mathlib.Core.Path.{_≡_, refl, sym, _∙_, subst}
 use mathlib.Core.Bool.{Bool, true, false, cond, true≢false}
 use mathlib.Core.Logic.{⊎-elim, _⊎_, inl, inr}
-use mathlib.Core.List.{List, [], _∷_, _++_, append-assoc, append-nil}
-use Prim.Native.Nat.{ℕ, _+_, _≤_, _<_}
+use mathlib.Core.List.{List, [], _∷_, _++_, append-assoc}
+use Prim.Native.Nat.{ℕ}
 use native.Mathlib.Omega.{arith}
-use lib.ListN.{length}
-use Rattle.laws.specs.Lists.{at, snoc}
+use Rattle.laws.specs.Lists.{snoc}
 use Rattle.laws.proofs.Members.{In, in-nil, in-head, in-left, in-right, in-tail, in-cases, in-append, sumList, sum-append}
 use Rattle.kinds.specs.Clauses.{deletedAt, undeleted}
 use Rattle.kinds.specs.Held.{Side}
 use Rattle.passing.proofs.Store.{inTier, liveWords, chain-drop, Stale, Live, Store}
-use Rattle.passing.proofs.Good.{Quiet, ReasonIn, Reasons}
+use Rattle.passing.proofs.Good.{Quiet, Reasons}
 use Rattle.passing.proofs.Changes.{in-tier-gone, words-gone}
 
 module _ (w a : List ℕ) (o : ℕ) (b : List ℕ) where

@@ -1,9 +1,9 @@
 -- What setting one field of word 1 leaves of the others. Assumes nothing.
-use mathlib.Core.Path.{_≡_, refl}
+use mathlib.Core.Path.{_≡_}
 use mathlib.Core.Bool.{Bool, true, false}
-use Prim.Native.Nat.{ℕ, _+_, _*_, _/_, _%_, _^_, _≤_, _<_, min}
+use Prim.Native.Nat.{ℕ, _<_}
 use native.Mathlib.Omega.{arith}
-use Rattle.kinds.specs.Header.{tierOf, deletedOf, markOf, glueOf, activeOf, spareOf, withTier, withDeleted, withGlue, withActive, saturated, newHead}
+use Rattle.kinds.specs.Header.{tierOf, deletedOf, markOf, glueOf, spareOf, withTier, withDeleted, withGlue, withActive, newHead}
 
 -- mark and spare bits stay
 pub record Plain (x y : ℕ) : Type 0 where

@@ -1,11 +1,11 @@
 -- Every step keeps the length of the word buffer and of the host's buffers, and no trail becomes longer. Assumes nothing.
-use mathlib.Core.Path.{_≡_, refl, sym, ap, _∙_}
+use mathlib.Core.Path.{_≡_, refl, ap, _∙_}
 use mathlib.Core.Bool.{Bool, true, false, cond}
 use mathlib.Core.List.{List, [], _∷_}
 use Prim.Native.Nat.{ℕ, _+_, _-_, _≤_}
 use native.Mathlib.Omega.{arith}
-use lib.ListN.{length, set, length-set}
-use lib.Seq.{sets, length-sets}
+use lib.ListN.{length, length-set}
+use lib.Seq.{length-sets}
 use lib.Dec.{eqb, ltb}
 use lib.Ieee.{lt, le, toBits, binary32}
 use Rattle.laws.specs.Fold.{foldList}
@@ -21,7 +21,7 @@ use Rattle.calls.specs.Call.{Command, addClause, setTier, delete, addBinary, im
 use Rattle.calls.specs.Adding.{newWords, addedLong, movedTo, tierSet, removed, strikeNoted, struck, addedPair, deleted, recordEmptied}
 use Rattle.calls.specs.Bumping.{tierFor, newGlue, sumFor, bumpGrown, scaledAt, rescaled, activityRaised, activityBumped, activated, glueStored, glueLowered, bumped, decayed, decaySet}
 use Rattle.calls.specs.Reducing.{Round, spared, localDone, localsRound, localsReduced, sortedLocals, toStrike, midKept, midDone, midsReduced, tierEmptied, cleanedTier}
-use Rattle.calls.specs.Collecting.{due, oldPlaces, newPlaces, followed, hostFollowed, closedUp, collected}
+use Rattle.calls.specs.Collecting.{due, oldPlaces, newPlaces, hostFollowed, closedUp, collected}
 use Rattle.calls.specs.Simplifying.{unfalsified, restOfReason, verdictOf, kept, unitNoted, unitRemoved, unitDone, trailEmptied, unitsProved, binariesCleaned, shorterNoted, shortened, shorterDone, verdictDone, clauseDone, simplified}
 use Rattle.calls.specs.Outcome.{step}
 use Rattle.passing.proofs.Rescale.{Whole}

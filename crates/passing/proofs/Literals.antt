@@ -1,18 +1,18 @@
 -- Lists of literals in range with different variables, and those that are not false of a clause's. Assumes nothing.
-use mathlib.Core.Path.{_≡_, refl, sym, ap, ap₂, _∙_, subst}
-use mathlib.Core.Bool.{Bool, true, false, cond, not, _&&_, _||_, true≢false}
-use mathlib.Core.Logic.{⊎-elim, _⊎_, inl, inr}
-use mathlib.Core.List.{List, [], _∷_, _++_}
-use Prim.Native.Nat.{ℕ, zero, suc, _+_, _-_, _*_, _≤_, _<_}
+use mathlib.Core.Path.{_≡_, sym, ap, _∙_, subst}
+use mathlib.Core.Bool.{Bool, true, false, cond, not, _&&_, _||_}
+use mathlib.Core.Logic.{⊎-elim}
+use mathlib.Core.List.{List, [], _∷_}
+use Prim.Native.Nat.{ℕ, zero, suc, _+_, _*_, _≤_, _<_}
 use native.Mathlib.Nat.{le-of-suc-le-suc, not-suc-le-zero}
 use native.Mathlib.Omega.{arith}
 use lib.ListN.{length}
-use lib.Dec.{eqb, ltb}
+use lib.Dec.{ltb}
 use borrow.Author.Tests.{ltb-false}
 use Rattle.laws.specs.Fold.{one}
 use Rattle.laws.specs.Lists.{at, readN}
 use Rattle.laws.proofs.Reading.{length-read, at-read}
-use Rattle.laws.proofs.Members.{In, in-nil, in-head, in-tail, in-cases, in-at, in-place}
+use Rattle.laws.proofs.Members.{In, in-head, in-tail, in-cases, in-at, in-place}
 use Rattle.kinds.specs.Clauses.{varOf}
 use Rattle.kinds.specs.Held.{isTrue, isOpen, isFalse}
 use Rattle.calls.specs.Refusing.{openCount, lacking}

@@ -1,15 +1,14 @@
 -- AN ACCEPTED CALL LEAVES A STORE AND A HOST SIDE THAT PASS: one law for each command, and all of them. Assumes nothing.
 use mathlib.Core.Path.{_≡_, refl, sym, ap, _∙_, subst}
-use mathlib.Core.Bool.{Bool, true, false, cond, _&&_}
+use mathlib.Core.Bool.{Bool, true, false, cond}
 use mathlib.Core.List.{List, [], _∷_}
-use Prim.Native.Nat.{ℕ, suc, _+_, _*_, _≤_, _<_}
+use Prim.Native.Nat.{ℕ, suc, _≤_}
 use native.Mathlib.Omega.{arith}
 use lib.ListN.{length}
 use lib.Dec.{T}
 use lib.Ieee.{Float, binary32, fits}
 use Rattle.laws.specs.Lists.{at, lengths, fillEach}
 use Rattle.laws.proofs.Folds.{and-both, and-left, and-right}
-use Rattle.kinds.specs.Clauses.{varOf}
 use Rattle.kinds.specs.Lent.{Lent, roomOf}
 use Rattle.kinds.specs.Held.{Held}
 use Rattle.kinds.specs.Layout.{side, view, layState, lay, fit}
@@ -23,13 +22,12 @@ use Rattle.calls.specs.Bumping.{bumped, decayed, decaySet}
 use Rattle.calls.specs.Reducing.{localsReduced, midsReduced}
 use Rattle.calls.specs.Collecting.{collected}
 use Rattle.calls.specs.Simplifying.{unitsProved, simplified}
-use Rattle.calls.specs.Outcome.{Outcome, step, answer, refusedFor, hasRoom, number, done}
+use Rattle.calls.specs.Outcome.{Outcome, step, refusedFor, hasRoom, number, done}
 use Rattle.calls.proofs.Laws.{accepts}
 use Rattle.calls.proofs.Judged.{words-sized, counts-long, host-sized, words-fit}
 use Rattle.calls.proofs.Shapes.{Shape, step-shape}
 use Rattle.calls.proofs.After.{judged-zero, own-zero, room-true, tiers-length, held-after}
 use Rattle.demands.specs.Demands.{wholePasses, Typed, TypedCall, Kept, PassingPreserved}
-use Rattle.passing.proofs.Good.{Good}
 use Rattle.passing.proofs.Tests.{Formed, good-of, store-passes, host-passes}
 use Rattle.passing.proofs.Rows.{pair-even}
 use Rattle.passing.proofs.AddClause.{added-good}
@@ -40,7 +38,7 @@ use Rattle.passing.proofs.Units.{units-good}
 use Rattle.passing.proofs.Collect.{collected-good}
 use Rattle.passing.proofs.Simplify.{simplified-good}
 use Rattle.passing.proofs.Asked.{add-clause-asked, set-tier-asked, delete-asked, add-binary-asked, bump-asked, set-decay-asked, simplify-asked}
-use Rattle.passing.proofs.Keeps.{Keeps, step-keeps}
+use Rattle.passing.proofs.Keeps.{step-keeps}
 use Rattle.passing.proofs.Sizes.{sizes-after, used-same}
 
 -- ---- before: what is held passes

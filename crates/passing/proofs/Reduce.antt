@@ -2,27 +2,26 @@
 use mathlib.Core.Path.{_≡_, refl, sym, ap, ap₂, _∙_, subst}
 use mathlib.Core.Bool.{Bool, true, false, cond, not, _||_, true≢false}
 use mathlib.Core.Logic.{⊎-elim, _⊎_, inl, inr}
-use mathlib.Core.List.{List, [], _∷_, _++_}
-use Prim.Native.Nat.{ℕ, zero, suc, _+_, _-_, _*_, _≤_, _<_}
+use mathlib.Core.List.{List, [], _∷_}
+use Prim.Native.Nat.{ℕ, _+_, _-_, _<_}
 use native.Mathlib.Decide.{ℕ-discrete}
 use native.Mathlib.Omega.{arith}
 use lib.ListN.{length, set, length-set}
 use lib.Seq.{getD-set-same, getD-set-other}
 use lib.Dec.{eqb}
-use borrow.Author.Tests.{eq-eqb, ne-eqb, eqb-true, eqb-false, not-false}
+use borrow.Author.Tests.{eq-eqb, ne-eqb, eqb-true, not-false}
 use Rattle.laws.specs.Fold.{foldList}
-use Rattle.laws.specs.Lists.{at, listAt, snoc, elem, push, sortBy}
+use Rattle.laws.specs.Lists.{listAt, snoc, elem, push, sortBy}
 use Rattle.laws.proofs.Members.{In, in-nil, in-head, in-tail, in-cases, in-left, in-last, in-snoc, Distinct}
 use Rattle.laws.proofs.Distinct.{distinct-snoc, sort-in, in-sort, distinct-sort}
 use Rattle.laws.proofs.Pushes.{at-other, in-pushed, in-push, push-cases, length-push}
-use Rattle.kinds.specs.Header.{tierOf, deletedOf, withActive, withTier, withDeleted}
-use Rattle.kinds.specs.Clauses.{headAt, lenAt, endAt, tierAt, deletedAt, activeAt, changeHead}
-use Rattle.kinds.specs.Held.{Held, Side, withWords, listIn, asserting}
+use Rattle.kinds.specs.Header.{withActive, withTier, withDeleted}
+use Rattle.kinds.specs.Clauses.{headAt, tierAt, deletedAt, activeAt, changeHead}
+use Rattle.kinds.specs.Held.{Held, withWords, listIn, asserting}
 use Rattle.calls.specs.Adding.{movedTo, tierSet, removed, strikeNoted, struck, deleted}
 use Rattle.calls.specs.Reducing.{stale, keptFirst, cleanedTier, tierEmptied, sortKey, sortedLocals, Round, spared, localDone, toStrike, localsRound, localsReduced, midKept, midDone, midsReduced}
-use Rattle.passing.proofs.Store.{Store, Live, Stale, Edit, Change, changed}
-use Rattle.passing.proofs.Good.{Quiet, Reasons, Good}
-use Rattle.passing.proofs.Heads.{Alike, active-alike}
+use Rattle.passing.proofs.Store.{Live, changed}
+use Rattle.passing.proofs.Heads.{active-alike}
 use Rattle.passing.proofs.Changes.{still-live, same-tier}
 use Rattle.passing.proofs.Striking.{Still, moved-good, no-reason, struck-good}
 use Rattle.passing.proofs.Rescale.{Whole, alike-good}

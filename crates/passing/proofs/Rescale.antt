@@ -1,35 +1,34 @@
 -- Rescaling, bump and decay keep what passing says. Assumes nothing.
-use mathlib.Core.Path.{_≡_, refl, sym, ap, ap₂, _∙_, subst}
-use mathlib.Core.Bool.{Bool, true, false, cond, not, true≢false}
-use mathlib.Core.Logic.{⊎-elim, _⊎_, inl, inr}
-use mathlib.Core.List.{List, [], _∷_, _++_}
-use Prim.Native.Nat.{ℕ, zero, suc, _+_, _-_, _*_, _≤_, _<_}
+use mathlib.Core.Path.{_≡_, refl, sym, ap, _∙_, subst}
+use mathlib.Core.Bool.{Bool, true, false, cond}
+use mathlib.Core.Logic.{⊎-elim}
+use mathlib.Core.List.{List, [], _∷_}
+use Prim.Native.Nat.{ℕ, _+_, _≤_, _<_}
 use native.Mathlib.Decide.{ℕ-discrete}
-use native.Mathlib.Nat.{le-trans}
 use native.Mathlib.Omega.{arith}
 use lib.ListN.{length, set}
 use lib.Dec.{eqb, leb, ltb, T}
-use lib.Ieee.{Float, binary32, mul, div, lt, le, toBits, fits}
+use lib.Ieee.{Float, binary32, mul, lt, le, toBits, fits}
 use lib.Ieee.Fits.{mul-fits, div-fits}
-use borrow.Author.Tests.{ltb-true, lt-ltb, leb-true, le-leb}
+use borrow.Author.Tests.{ltb-true, lt-ltb}
 use Rattle.laws.specs.Fold.{foldList}
 use Rattle.laws.specs.Lists.{at}
 use Rattle.laws.proofs.Folds.{and-both, and-left, and-right}
 use Rattle.laws.proofs.Members.{In, in-head, in-tail, in-at, in-place}
 use Rattle.laws.proofs.Pushes.{at-other, at-same}
-use Rattle.kinds.specs.Header.{tierOf, deletedOf, glueOf, withGlue, withActive}
-use Rattle.kinds.specs.Clauses.{activityAt, headAt, lenAt, endAt, tierAt, glueAt, deletedAt, undeleted, changeHead}
-use Rattle.kinds.specs.Floats.{unity, limit, limitBits, factor, scaled, bumpSum, inverse, activityOk, bumpOk, inverseOk, decayOk}
-use Rattle.kinds.specs.Held.{Held, Side, withWords, withActivity}
-use Rattle.kinds.proofs.FloatRanges.{Under, listed-ok, activity-bound, bound-activity, bump-bound, sum-range, sum-kept, bump-scaled, grown-range, grown-kept, grown-scaled, inverse-ok}
+use Rattle.kinds.specs.Header.{deletedOf, glueOf, withGlue, withActive}
+use Rattle.kinds.specs.Clauses.{activityAt, headAt, tierAt, glueAt, deletedAt, undeleted, changeHead}
+use Rattle.kinds.specs.Floats.{unity, limit, limitBits, factor, scaled, inverse, activityOk, bumpOk, inverseOk, decayOk}
+use Rattle.kinds.specs.Held.{Held, Side, withWords}
+use Rattle.kinds.proofs.FloatRanges.{Under, listed-ok, activity-bound, bound-activity, bump-bound, sum-range, sum-kept, bump-scaled, grown-kept, grown-scaled, inverse-ok}
 use Rattle.calls.specs.Adding.{movedTo, tierSet}
 use Rattle.calls.specs.Bumping.{tierFor, scaledAt, rescaled, sumFor, activityRaised, activityBumped, activated, glueStored, glueLowered, newGlue, bumped, bumpGrown, decayed, decaySet}
-use Rattle.passing.proofs.Store.{Store, Live, Edit, chain-in, chain-apart}
+use Rattle.passing.proofs.Store.{Store, Live, chain-in, chain-apart}
 use Rattle.passing.proofs.Good.{Quiet, Tuned, Reasons, Good}
 use Rattle.passing.proofs.Heads.{Alike, active-alike, glue-plain, glue-tier, glue-deleted}
-use Rattle.passing.proofs.Changes.{set-edit, quiet-frame, raised-store, raised-reasons, raised-live, head-store, head-quiet, head-reasons, still-live, same-tier, head-put, head-room}
+use Rattle.passing.proofs.Changes.{set-edit, quiet-frame, raised-store, raised-reasons, raised-live, head-store, head-quiet, head-reasons, still-live}
 use Rattle.passing.proofs.Striking.{tier-set-good}
-use Rattle.passing.proofs.Dropping.{drop-store, drop-quiet, drop-reasons, all-dropped, undeleted-live, live-undeleted}
+use Rattle.passing.proofs.Dropping.{drop-store, drop-reasons, all-dropped, undeleted-live, live-undeleted}
 
 -- ---- activities of clauses that are at most twice the limit
 

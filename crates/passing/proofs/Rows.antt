@@ -1,23 +1,23 @@
 -- Adding a pair, and cleaning, keep the rows symmetric, with half their entries counted. Assumes nothing.
 use mathlib.Core.Path.{_≡_, refl, sym, ap, ap₂, _∙_, subst}
-use mathlib.Core.Bool.{Bool, true, false, cond, not, _&&_, true≢false}
-use mathlib.Core.Logic.{⊎-elim, _⊎_, inl, inr}
-use mathlib.Core.List.{List, [], _∷_, _++_}
-use Prim.Native.Nat.{ℕ, zero, suc, _+_, _-_, _*_, _/_, _%_, _≤_, _<_}
+use mathlib.Core.Bool.{Bool, true, false, cond, _&&_}
+use mathlib.Core.Logic.{⊎-elim}
+use mathlib.Core.List.{List, [], _∷_}
+use Prim.Native.Nat.{ℕ, zero, suc, _+_, _*_, _/_, _<_}
 use native.Mathlib.Decide.{ℕ-discrete}
 use native.Mathlib.Omega.{arith}
 use lib.ListN.{length, getD, length-append}
 use lib.Dec.{eqb}
 use borrow.Author.Tests.{eq-eqb, ne-eqb}
 use Rattle.laws.specs.Fold.{one, sumBelow}
-use Rattle.laws.specs.Lists.{at, listAt, snoc, push, joined}
+use Rattle.laws.specs.Lists.{listAt, snoc, push, joined}
 use Rattle.laws.specs.Counts.{is, count}
 use Rattle.laws.proofs.Sorting.{is-same, is-other, count-cons, count-nil}
-use Rattle.laws.proofs.Members.{In, in-nil, in-head, in-tail, in-cases, sum-below-same}
+use Rattle.laws.proofs.Members.{In, in-head, in-tail, in-cases, sum-below-same}
 use Rattle.laws.proofs.Pushes.{pushed-here, pushed-other, pushed-cases, length-push}
 use Rattle.laws.proofs.Tables.{sum-below-add, sum-below-is, length-counts, count-in, symmetric-sum, count-push, length-joined}
 use Rattle.kinds.specs.Clauses.{varOf, neg}
-use Rattle.kinds.specs.Held.{byteOf, isOpen}
+use Rattle.kinds.specs.Held.{isOpen}
 use Rattle.calls.specs.Adding.{pairPushed}
 use Rattle.calls.specs.Simplifying.{staysIn, rowCleaned, rowsCleaned}
 use Rattle.passing.proofs.Good.{rowSize, Even}

@@ -1,33 +1,30 @@
 -- Simplifying keeps what passing says. Assumes nothing.
-use mathlib.Core.Path.{_≡_, refl, sym, ap, ap₂, _∙_, subst}
-use mathlib.Core.Bool.{Bool, true, false, cond, not, _&&_, _||_, true≢false}
-use mathlib.Core.Logic.{⊎-elim, _⊎_, inl, inr}
+use mathlib.Core.Path.{_≡_, refl, sym, ap, _∙_, subst}
+use mathlib.Core.Bool.{Bool, true, false, cond}
+use mathlib.Core.Logic.{inl}
 use mathlib.Core.List.{List, [], _∷_, _++_, append-nil}
-use Prim.Native.Nat.{ℕ, zero, suc, _+_, _-_, _*_, _≤_, _<_}
-use native.Mathlib.Decide.{ℕ-discrete}
+use Prim.Native.Nat.{ℕ, suc, _+_, _≤_, _<_}
 use native.Mathlib.Omega.{arith}
-use lib.ListN.{length, set}
+use lib.ListN.{length}
 use lib.Seq.{sets, length-sets}
 use lib.Dec.{eqb}
 use borrow.Author.Tests.{eqb-true, eqb-false}
-use Rattle.laws.specs.Fold.{foldList, one}
-use Rattle.laws.specs.Lists.{at, listAt, readN, snoc}
+use Rattle.laws.specs.Fold.{foldList}
+use Rattle.laws.specs.Lists.{at, readN}
 use Rattle.laws.proofs.Members.{In, in-head, in-tail, in-right, Distinct}
 use Rattle.laws.proofs.Reading.{at-sets-below, at-sets-above, at-sets, length-read, read-same}
 use Rattle.kinds.specs.Header.{withDeleted}
-use Rattle.kinds.specs.Clauses.{headAt, lenAt, sizeAt, endAt, tierAt, deletedAt, litsAt, originalAt, changeHead, varOf}
-use Rattle.kinds.specs.Floats.{limitBits}
+use Rattle.kinds.specs.Clauses.{headAt, lenAt, endAt, deletedAt, litsAt, originalAt, changeHead, varOf}
 use Rattle.kinds.specs.Lines.{line, strikeKind, entryKind}
 use Rattle.kinds.specs.Held.{Held, Side, withClauses, noted, kindOf, reasonWord}
-use Rattle.kinds.specs.declared.Verdict.{Verdict}
 use Rattle.kinds.specs.declared.Verdict.the-variants.{Satisfied, Same, Shorter}
 use Rattle.calls.specs.Adding.{removed, strikeNoted, struck, addedPair}
 use Rattle.calls.specs.Refusing.{lacking}
-use Rattle.calls.specs.Simplifying.{rowsCleaned, rowsStrikes, binariesCleaned, anyTrue, unfalsified, verdictOf, shorterNoted, shortened, kept, shorterDone, verdictDone, clauseDone, simplified}
-use Rattle.passing.proofs.Store.{Sound, inTier, liveWords, Chain, chain-in, chain-distinct, Live, Store, Same as SameWords, Edit, Change, changed, apart-same, deleted-same, len-same}
-use Rattle.passing.proofs.Good.{Quiet, Reasons, Good}
+use Rattle.calls.specs.Simplifying.{binariesCleaned, anyTrue, unfalsified, verdictOf, shorterNoted, shortened, kept, shorterDone, verdictDone, clauseDone, simplified}
+use Rattle.passing.proofs.Store.{Sound, inTier, Chain, chain-in, chain-distinct, Live, Store, Same as SameWords, Edit, changed, apart-same, deleted-same, len-same}
+use Rattle.passing.proofs.Good.{Quiet, Good}
 use Rattle.passing.proofs.Changes.{set-edit, quiet-frame, words-live, deleted-there}
-use Rattle.passing.proofs.Striking.{Still, still-all, noted-good, removed-good, struck-good}
+use Rattle.passing.proofs.Striking.{still-all, noted-good, removed-good, struck-good}
 use Rattle.passing.proofs.Dropping.{drop-store, drop-quiet, drop-reasons, passed-on}
 use Rattle.passing.proofs.Rescale.{Whole}
 use Rattle.passing.proofs.Rows.{pair-even, cleaned-even}

@@ -1,19 +1,17 @@
 -- An accepted call leaves buffers and used lengths that refusal 1 finds nothing wrong with. Assumes nothing.
 use mathlib.Core.Path.{_≡_, refl, sym, ap, ap₂, _∙_, subst}
-use mathlib.Core.Bool.{Bool, true, false, cond, not, _&&_, _||_, true≢false}
+use mathlib.Core.Bool.{Bool, true, false, cond, true≢false}
 use mathlib.Core.List.{List, [], _∷_}
-use Prim.Native.Nat.{ℕ, zero, suc, _+_, _*_, _/_, _^_, _≤_, _<_}
+use Prim.Native.Nat.{ℕ, zero, suc, _*_, _/_, _^_, _≤_, _<_}
 use native.Mathlib.Nat.{mul-div-le}
 use native.Mathlib.Omega.{arith}
-use lib.ListN.{length, take, length-take}
-use lib.Dec.{eqb, leb}
+use lib.ListN.{length, length-take}
 use borrow.Author.Tests.{eq-eqb, le-leb}
-use Rattle.laws.specs.Fold.{allBelow}
 use Rattle.laws.specs.Lists.{at, listAt, lengths, fill, fillEach}
 use Rattle.laws.proofs.Folds.{and-both, all-of}
 use Rattle.laws.proofs.Fills.{length-fill}
-use Rattle.kinds.specs.Lent.{Lent, Host, Parts, roomOf}
-use Rattle.kinds.specs.Held.{Held, Side}
+use Rattle.kinds.specs.Lent.{Lent, Parts, roomOf}
+use Rattle.kinds.specs.Held.{Held}
 use Rattle.kinds.specs.Layout.{fillRows, side, view, layState, layHost, lay, fit}
 use Rattle.kinds.proofs.Layouts.{Sized, AllFit, sized-of, allFit-of, length-fillRows}
 use Rattle.kinds.proofs.RowLayout.{length-lengths, at-lengths}
@@ -21,8 +19,8 @@ use Rattle.calls.specs.Call.{Command, addClause, setTier, delete, addBinary, im
 use Rattle.calls.specs.Size.{varsInRange, sized, wordsSized, tierSized, tiersSized, rowSized, rowsSized, recordSized, levelsSized, hostSized, sizesOk}
 use Rattle.calls.specs.Adding.{addedPair, recordEmptied}
 use Rattle.calls.specs.Bumping.{decaySet}
-use Rattle.calls.specs.Outcome.{step, hasRoom, number}
-use Rattle.calls.proofs.Judged.{SizedList, HostSized, vars-low, vars-high, words-sized, clauses-sized, tier-sized, rows-most, counts-long, counts-within, record-sized, levels-long, host-sized, words-fit, clauses-fit, tier-fits, row-fits, record-fits}
+use Rattle.calls.specs.Outcome.{step}
+use Rattle.calls.proofs.Judged.{SizedList, vars-low, vars-high, words-sized, clauses-sized, tier-sized, rows-most, counts-long, counts-within, record-sized, levels-long, host-sized, words-fit, clauses-fit, tier-fits, row-fits, record-fits}
 use Rattle.calls.proofs.Shapes.{Shape}
 use Rattle.passing.proofs.Keeps.{Keeps}
 

@@ -1,17 +1,17 @@
 -- The rules of words, clause list, counts and tier lists, by the entries of the lists, and what a change inside one clause's words leaves of them. Assumes nothing.
-use mathlib.Core.Path.{_≡_, refl, sym, ap, ap₂, _∙_, subst}
+use mathlib.Core.Path.{_≡_, refl, sym, ap, _∙_, subst}
 use mathlib.Core.Bool.{Bool, true, false, not, _&&_, true≢false}
 use mathlib.Core.Logic.{⊎-elim, _⊎_, inl, inr}
 use mathlib.Core.List.{List, [], _∷_, _++_}
-use Prim.Native.Nat.{ℕ, zero, suc, _+_, _-_, _*_, _≤_, _<_}
+use Prim.Native.Nat.{ℕ, _+_, _*_, _≤_, _<_}
 use native.Mathlib.Decide.{ℕ-discrete, decLe}
 use native.Mathlib.Omega.{arith}
 use lib.ListN.{length}
 use lib.Dec.{eqb}
 use Rattle.laws.specs.Fold.{one}
 use Rattle.laws.specs.Lists.{at, listAt}
-use Rattle.laws.proofs.Members.{In, in-nil, in-head, in-tail, in-cases, Distinct, sumList, sum-change}
-use Rattle.kinds.specs.Header.{tierOf, markOf, glueOf, spareOf}
+use Rattle.laws.proofs.Members.{In, in-nil, in-cases, Distinct, sumList, sum-change}
+use Rattle.kinds.specs.Header.{markOf, glueOf, spareOf}
 use Rattle.kinds.specs.Clauses.{headAt, lenAt, sizeAt, endAt, tierAt, deletedAt, varOf}
 use Rattle.calls.proofs.Readings.{Lits}
 

@@ -1,10 +1,8 @@
 -- A tier change, and a deletion with its line, keep what passing says. Assumes nothing.
-use mathlib.Core.Path.{_≡_, refl, sym, ap, ap₂, _∙_, subst}
-use mathlib.Core.Bool.{Bool, true, false, cond, not, _&&_, true≢false}
-use mathlib.Core.Logic.{⊎-elim, _⊎_, inl, inr}
-use mathlib.Core.List.{List, [], _∷_, _++_}
-use Prim.Native.Nat.{ℕ, _+_, _-_, _*_, _≤_, _<_}
-use native.Mathlib.Omega.{arith}
+use mathlib.Core.Path.{_≡_, refl, sym, _∙_, subst}
+use mathlib.Core.Bool.{Bool, true, false, cond, _&&_, true≢false}
+use mathlib.Core.List.{List}
+use Prim.Native.Nat.{ℕ, _<_}
 use lib.ListN.{length}
 use lib.Dec.{eqb}
 use borrow.Author.Tests.{eq-eqb, eqb-false}
@@ -14,10 +12,9 @@ use Rattle.laws.proofs.Members.{In}
 use Rattle.kinds.specs.Header.{glueOf, withTier}
 use Rattle.kinds.specs.Clauses.{headAt, firstAt, tierAt, deletedAt, litsAt, originalAt}
 use Rattle.kinds.specs.Lines.{Line, line, strikeKind}
-use Rattle.kinds.specs.Held.{Held, Side, noted, asserting, isTrue, kindOf, reasonWord}
+use Rattle.kinds.specs.Held.{Held, noted, asserting, isTrue, kindOf, reasonWord}
 use Rattle.calls.specs.Adding.{movedTo, tierSet, removed, strikeNoted, struck}
-use Rattle.passing.proofs.Store.{Store}
-use Rattle.passing.proofs.Good.{Quiet, ReasonIn, Reasons, Good}
+use Rattle.passing.proofs.Good.{Good}
 use Rattle.passing.proofs.Heads.{tier-plain, tier-deleted}
 use Rattle.passing.proofs.Changes.{moved-store, head-quiet, head-reasons, removed-store, removed-quiet, removed-reasons}
 

@@ -1,31 +1,31 @@
 -- Between the tests of passing and the rules by entries: what the tests say where they hold, and that they hold where the rules do. Assumes nothing.
-use mathlib.Core.Path.{_≡_, refl, sym, ap, ap₂, _∙_, subst}
+use mathlib.Core.Path.{_≡_, refl, sym, ap, _∙_, subst}
 use mathlib.Core.Bool.{Bool, true, false, not, _&&_, _||_, true≢false}
 use mathlib.Core.Logic.{⊎-elim, _⊎_, inl, inr}
-use mathlib.Core.List.{List, [], _∷_, _++_}
-use Prim.Native.Nat.{ℕ, zero, suc, _+_, _-_, _*_, _≤_, _<_}
+use mathlib.Core.List.{List, [], _∷_}
+use Prim.Native.Nat.{ℕ, zero, suc, _+_, _*_, _≤_, _<_}
 use native.Mathlib.Nat.{le-of-suc-le-suc, not-suc-le-zero}
 use native.Mathlib.Numerals.{add-one}
 use native.Mathlib.Omega.{arith}
 use lib.ListN.{length}
 use lib.Dec.{eqb, leb, ltb, T}
-use lib.Ieee.{Float, binary32, toBits, fits}
-use borrow.Author.Tests.{leb-true, leb-false, ltb-true, eqb-true, eqb-false, not-true, not-false, lt-ltb, le-leb, lt-leb, eq-eqb, ne-eqb}
+use lib.Ieee.{binary32, fits}
+use borrow.Author.Tests.{leb-true, leb-false, ltb-true, eqb-true, not-true, lt-ltb, le-leb, eq-eqb, ne-eqb}
 use Rattle.laws.specs.Fold.{allBelow, anyBelow, countBelow, sumBelow, one}
 use Rattle.laws.specs.Lists.{at, listAt, elem}
 use Rattle.laws.specs.Counts.{is, count}
 use Rattle.laws.proofs.Folds.{and-both, and-left, and-right, or-left, or-right, all-of, any-at, any-no, any-find}
 use Rattle.laws.proofs.Members.{In, in-nil, in-at, in-place, sumList, sum-places, count-sum}
 use Rattle.kinds.specs.Header.{tierOf, markOf, glueOf, spareOf}
-use Rattle.kinds.specs.Clauses.{activityAt, headAt, lenAt, firstAt, endAt, tierAt, deletedAt, isLive, varOf, neg}
+use Rattle.kinds.specs.Clauses.{activityAt, headAt, lenAt, endAt, tierAt, deletedAt, isLive, varOf, neg}
 use Rattle.kinds.specs.Floats.{limitBits, activityOk, bumpOk, inverseOk}
-use Rattle.kinds.specs.Held.{Held, Side, isTrue, isFalse, kindOf, reasonWord}
+use Rattle.kinds.specs.Held.{Held, Side, kindOf, reasonWord}
 use Rattle.calls.specs.Call.{everything}
 use Rattle.calls.specs.StorePasses.{placedAt, placed, liveAt, apart, litOk, litsOk, headOk, clauseOk, clauseOkAt, clausesOk, liveIn, countOk, countsOk, liveSize, garbageOk, standsAt, coveredAt, covered, refAt, insideAt, staleOk, entryOk, entriesOk, tierOk, tiersOk, rowEntryOk, rowInRange, rowsInRange, timesIn, symmetricAt, symmetricWith, rowsSymmetric, rowLength, binaryOk, wordsPass, rowsPass, floatsPass, storePasses}
 use Rattle.calls.specs.HostPasses.{atMostAt, valuesInRange, kindsInRange, trailInRange, levelsInRange, levelInRange, trailOkAt, trailOk, onTrail, offTrailOk, removedOk, binaryReasonOk, binaryReasonsOk, otherFalse, reasonClauseOk, longReasonOk, longReasonsOk, sidePasses, hostPasses}
-use Rattle.calls.proofs.Readings.{Lits, LiveClause, Words, Tier, Rows, Floats, TrailLit, HostSide, ReasonClause, words-pass, tiers-pass, rows-pass, floats-pass, levels-pass, side-pass, reasons-pass, held-words, held-tier, rows-read, floats-read, reason-read}
-use Rattle.passing.proofs.Store.{Sound, inTier, liveWords, Chain, chain-in, Stale, Live, Store}
-use Rattle.passing.proofs.Good.{Quiet, rowSize, Even, Tuned, ReasonIn, Reasons, Sided, Good}
+use Rattle.calls.proofs.Readings.{Lits, LiveClause, HostSide, words-pass, tiers-pass, rows-pass, floats-pass, levels-pass, side-pass, reasons-pass, held-words, held-tier, rows-read, floats-read, reason-read}
+use Rattle.passing.proofs.Store.{inTier, liveWords, Chain, chain-in, Stale, Live, Store}
+use Rattle.passing.proofs.Good.{Quiet, Even, Tuned, Reasons, Good}
 
 -- ---- small tests
 

@@ -1,9 +1,9 @@
 -- Proving units keeps what passing says. Assumes nothing.
-use mathlib.Core.Path.{_≡_, refl, sym, ap, ap₂, _∙_, subst}
-use mathlib.Core.Bool.{Bool, true, false, cond, not, _||_, true≢false}
+use mathlib.Core.Path.{_≡_, refl, sym, ap, _∙_, subst}
+use mathlib.Core.Bool.{Bool, true, false, cond}
 use mathlib.Core.Logic.{⊎-elim, _⊎_, inl, inr}
-use mathlib.Core.List.{List, [], _∷_, _++_}
-use Prim.Native.Nat.{ℕ, zero, suc, _+_, _-_, _*_, _≤_, _<_}
+use mathlib.Core.List.{List, [], _∷_}
+use Prim.Native.Nat.{ℕ, _<_}
 use native.Mathlib.Decide.{ℕ-discrete, decLt}
 use native.Mathlib.Omega.{arith}
 use lib.ListN.{length, set, length-set}
@@ -13,7 +13,7 @@ use borrow.Author.Tests.{eqb-true}
 use Rattle.laws.specs.Fold.{foldList}
 use Rattle.laws.specs.Lists.{at}
 use Rattle.laws.proofs.Folds.{any-find}
-use Rattle.laws.proofs.Members.{In, in-nil, in-head, in-cases, in-at}
+use Rattle.laws.proofs.Members.{In, in-nil, in-cases, in-at}
 use Rattle.laws.proofs.Pushes.{at-other, at-same}
 use Rattle.kinds.specs.Clauses.{varOf}
 use Rattle.kinds.specs.Lines.{line}
@@ -22,7 +22,7 @@ use Rattle.calls.specs.HostPasses.{onTrail, variableAt}
 use Rattle.calls.specs.Simplifying.{restOfReason, unitNoted, unitRemoved, unitDone, trailEmptied, unitsProved}
 use Rattle.calls.proofs.Readings.{HostSide}
 use Rattle.passing.proofs.Store.{Store}
-use Rattle.passing.proofs.Good.{Quiet, Even, Tuned, Sided, Good}
+use Rattle.passing.proofs.Good.{Quiet, Even, Tuned}
 use Rattle.passing.proofs.Rescale.{Whole}
 
 -- while units are removed: the store's rules, and reasons that became 4 or are as they were in s
