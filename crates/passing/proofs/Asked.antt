@@ -24,11 +24,11 @@ use Rattle.passing.proofs.AddClause.{LongGiven}
 
 -- ---- no check of a list is given
 
-clear : (b : Bool) (n r : ℕ) → (n ≡ 0 → ⊥) → cond b n r ≡ 0 → b ≡ false
+pub clear : (b : Bool) (n r : ℕ) → (n ≡ 0 → ⊥) → cond b n r ≡ 0 → b ≡ false
 clear true n r h e = absurd (h e)
 clear false n r h e = refl
 
-rest : (b : Bool) (n r : ℕ) → (n ≡ 0 → ⊥) → cond b n r ≡ 0 → r ≡ 0
+pub rest : (b : Bool) (n r : ℕ) → (n ≡ 0 → ⊥) → cond b n r ≡ 0 → r ≡ 0
 rest true n r h e = absurd (h e)
 rest false n r h e = e
 

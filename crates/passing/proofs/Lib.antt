@@ -17,3 +17,4 @@ pub mod Keeps
 pub mod Sizes
 pub mod Asked
 pub mod Preserved
+pub mod Started

@@ -34,7 +34,7 @@ list-used : (b : Bool) (n : ℕ) (buf xs : List ℕ) → n ≤ length buf → (b
 list-used true n buf xs h k = k refl
 list-used false n buf xs h k = h
 
-sized-test : (m n : ℕ) (l : List ℕ) → length l ≤ m → n ≤ length l → sized m n l ≡ true
+pub sized-test : (m n : ℕ) (l : List ℕ) → length l ≤ m → n ≤ length l → sized m n l ≡ true
 unfolding sized
 sized-test m n l h k = and-both _ _ (le-leb (length l) m h) (le-leb n (length l) k)
 
@@ -76,7 +76,7 @@ counts-room : (b : Bool) (m c : ℕ) (ns : List ℕ) (rows : List (List ℕ)) �
 counts-room true m c ns rows h f = let z = f refl in let e = at-lengths rows c in omega arith
 counts-room false m c ns rows h f = h
 
-rows-test : (k : Lent) → length (k .rows) ≤ 2 ^ 24 → length (k .counts) ≡ 2 * k .state .vars → ((c : ℕ) → c < 2 * k .state .vars → at (k .counts) c ≤ roomOf (k .state .vars) (k .rows)) → rowsSized k ≡ true
+pub rows-test : (k : Lent) → length (k .rows) ≤ 2 ^ 24 → length (k .counts) ≡ 2 * k .state .vars → ((c : ℕ) → c < 2 * k .state .vars → at (k .counts) c ≤ roomOf (k .state .vars) (k .rows)) → rowsSized k ≡ true
 unfolding rowsSized rowSized
 rows-test k h e f = and-both _ _ (le-leb (length (k .rows)) (2 ^ 24) h) (and-both _ _ (eq-eqb (length (k .counts)) (2 * k .state .vars) e) (all-of (rowSized k) (2 * k .state .vars) (λ c g. le-leb _ _ (f c g))))
 
