@@ -64,3 +64,7 @@ pub record Good (h : Held) (l p : List ℕ) : Type 0 where
   pub tuned : Tuned (h .activity .bump) (h .activity .«inv_decay»)
   pub sided : Sided (h .vars) (h .host)
   pub reasons : Reasons (h .words) l (h .host)
+
+-- with the clause list that is held
+abbrev pub Whole : Held → List ℕ → Type 0
+Whole h p = Good h (h .clauses) p

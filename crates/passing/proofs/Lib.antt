@@ -4,10 +4,12 @@ pub mod Tests
 pub mod Heads
 pub mod Changes
 pub mod AddClause
-pub mod Striking
+pub mod OneClause
 pub mod Rows
 pub mod Dropping
 pub mod Rescale
+pub mod Bump
+pub mod Decay
 pub mod Reduce
 pub mod Units
 pub mod Collect

@@ -31,8 +31,10 @@ use Rattle.demands.specs.Demands.{wholePasses, Typed, TypedCall, Kept, PassingP
 use Rattle.passing.proofs.Tests.{Formed, good-of, store-passes, host-passes}
 use Rattle.passing.proofs.Rows.{pair-even}
 use Rattle.passing.proofs.AddClause.{added-good}
-use Rattle.passing.proofs.Striking.{still-all, no-reason, struck-good}
-use Rattle.passing.proofs.Rescale.{Whole, tier-set-whole, bumped-good, decayed-good, decay-set-good}
+use Rattle.passing.proofs.OneClause.{still-all, no-reason, struck-good, tier-set-whole}
+use Rattle.passing.proofs.Good.{Whole}
+use Rattle.passing.proofs.Bump.{bumped-good}
+use Rattle.passing.proofs.Decay.{decayed-good, decay-set-good}
 use Rattle.passing.proofs.Reduce.{mids-good, locals-good}
 use Rattle.passing.proofs.Units.{units-good}
 use Rattle.passing.proofs.Collect.{collected-good}

@@ -23,8 +23,8 @@ use Rattle.calls.specs.Reducing.{stale, keptFirst, cleanedTier, tierEmptied, so
 use Rattle.passing.proofs.Store.{Live, changed}
 use Rattle.passing.proofs.Heads.{active-alike}
 use Rattle.passing.proofs.Changes.{still-live, same-tier}
-use Rattle.passing.proofs.Striking.{Still, moved-good, no-reason, struck-good}
-use Rattle.passing.proofs.Rescale.{Whole, alike-good}
+use Rattle.passing.proofs.OneClause.{Still, moved-good, no-reason, struck-good, alike-good}
+use Rattle.passing.proofs.Good.{Whole}
 
 -- ---- "Both drop stale and repeated entries, the first of equals staying."
 

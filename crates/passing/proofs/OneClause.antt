@@ -1,4 +1,4 @@
--- A tier change, and a deletion with its line, keep what passing says. Assumes nothing.
+-- Changes of one clause keep what passing says: a tier change, a flag, a deletion with its line. Assumes nothing.
 use mathlib.Core.Path.{_≡_, refl, sym, _∙_, subst}
 use mathlib.Core.Bool.{Bool, true, false, cond, _&&_, true≢false}
 use mathlib.Core.List.{List}
@@ -10,13 +10,14 @@ use Rattle.laws.specs.Lists.{at}
 use Rattle.laws.proofs.Folds.{and-both}
 use Rattle.laws.proofs.Members.{In}
 use Rattle.kinds.specs.Header.{glueOf, withTier}
-use Rattle.kinds.specs.Clauses.{headAt, firstAt, tierAt, deletedAt, litsAt, originalAt}
+use Rattle.kinds.specs.Clauses.{headAt, firstAt, tierAt, deletedAt, litsAt, originalAt, changeHead}
 use Rattle.kinds.specs.Lines.{Line, line, strikeKind}
-use Rattle.kinds.specs.Held.{Held, noted, asserting, isTrue, kindOf, reasonWord}
+use Rattle.kinds.specs.Held.{Held, noted, asserting, isTrue, kindOf, reasonWord, withWords}
 use Rattle.calls.specs.Adding.{movedTo, tierSet, removed, strikeNoted, struck}
-use Rattle.passing.proofs.Good.{Good}
-use Rattle.passing.proofs.Heads.{tier-plain, tier-deleted}
-use Rattle.passing.proofs.Changes.{moved-store, head-quiet, head-reasons, removed-store, removed-quiet, removed-reasons}
+use Rattle.passing.proofs.Good.{Good, Whole}
+use Rattle.passing.proofs.Heads.{tier-plain, tier-deleted, Alike}
+use Rattle.passing.proofs.Changes.{moved-store, head-quiet, head-reasons, removed-store, removed-quiet, removed-reasons, head-store}
+use Rattle.passing.proofs.Store.{Live}
 
 -- nothing but the clauses still to be entered changes
 abbrev pub Still : ℕ → List ℕ → List ℕ → Type 0
@@ -82,3 +83,28 @@ pub struck-good : (h : Held) (l p : List ℕ) → Good h l p → (o : ℕ) → I
 unfolding struck strikeNoted
 struck-good h l p d o m live k none p' still =
     removed-good (noted (line (strikeKind (originalAt (h .words) o) k) (litsAt (h .words) o)) h) l p (noted-good h l p (line (strikeKind (originalAt (h .words) o) k) (litsAt (h .words) o)) d) o m live none p' still
+
+-- ---- with the clause list that is held
+
+-- a change of word 1 that keeps tier, deleted bit and glue
+pub alike-good : (h : Held) (p : List ℕ) → Whole h p → (o : ℕ) → Live (h .words) (h .clauses) o → (f : ℕ → ℕ) → Alike (headAt (h .words) o) (f (headAt (h .words) o))
+    → Whole (withWords (changeHead f o (h .words)) h) p
+alike-good h p d o a f e = record {
+  store = head-store (d .store) o (a .0) (a .1) f (e .plain) (e .deleted) (e .tier) (λ z. e .glue ∙ d .store .clause o (a .0) (a .1) .glue z);
+  quiet = head-quiet (d .store) o (a .0) (a .1) f (e .plain) (e .deleted) (d .quiet);
+  rows = d .rows;
+  tuned = d .tuned;
+  sided = d .sided;
+  reasons = head-reasons (d .store) o (a .0) (a .1) f (e .plain) (e .deleted) (h .host) (d .reasons);
+}
+
+tier-clauses : (t o : ℕ) (h : Held) → tierSet t o h .clauses ≡ h .clauses
+unfolding tierSet movedTo
+tier-clauses t o h = go (eqb (tierAt (h .words) o) t)
+  where
+    go : (b : Bool) → cond b h (movedTo t o h) .clauses ≡ h .clauses
+    go true = refl
+    go false = refl
+
+pub tier-set-whole : (h : Held) (p : List ℕ) → Whole h p → (o : ℕ) → Live (h .words) (h .clauses) o → (t : ℕ) → t < 4 → ((tierAt (h .words) o ≡ t → ⊥) → t ≡ 0 → glueOf (headAt (h .words) o) ≡ 0) → Whole (tierSet t o h) p
+tier-set-whole h p d o a t k g = subst (λ (l : List ℕ). Good (tierSet t o h) l p) (sym (tier-clauses t o h)) (tier-set-good h (h .clauses) p d o (a .0) (a .1) t k g)
