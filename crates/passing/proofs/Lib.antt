@@ -20,3 +20,4 @@ pub mod Sizes
 pub mod Asked
 pub mod Preserved
 pub mod Started
+pub mod Always
