@@ -7,3 +7,6 @@ pub mod Members
 pub mod Pushes
 pub mod Tables
 pub mod Distinct
+pub mod Writing
+pub mod Entries
+pub mod Sums
