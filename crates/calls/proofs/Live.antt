@@ -36,14 +36,14 @@ live-there h o e l =
     let d′ : deletedAt (h .words) (at (h .clauses) (p .0)) ≡ false = ap (deletedAt (h .words)) (p .2) ∙ d in
     let t : tierAt (h .words) o < 4 = mod-lt (headAt (h .words) o / 2 ^ 0) (pow-pos 2) in
     record {
-  place = p .0;
-  listed = p .1;
-  there = p .2;
-  live = d;
-  ends = subst (λ (x : ℕ). endAt (h .words) x ≤ h .used) (p .2) (w .ends (p .0) (p .1));
-  clause = subst (LiveClause (h .words) (h .vars)) (p .2) (w .clause (p .0) (p .1) d′);
-  tier = t;
-  counted = subst (λ (x : ℕ). 0 < x) (sym (w .counts (tierAt (h .words) o) t))
-      (count-pos (liveIn (h .words) (h .clauses) (tierAt (h .words) o)) (length (h .clauses)) (p .0) (p .1)
-      (and-both (not (deletedAt (h .words) (at (h .clauses) (p .0)))) _ (ap not d′) (eq-eqb _ _ (ap (tierAt (h .words)) (p .2)))));
-}
+      place = p .0;
+      listed = p .1;
+      there = p .2;
+      live = d;
+      ends = subst (λ (x : ℕ). endAt (h .words) x ≤ h .used) (p .2) (w .ends (p .0) (p .1));
+      clause = subst (LiveClause (h .words) (h .vars)) (p .2) (w .clause (p .0) (p .1) d′);
+      tier = t;
+      counted = subst (λ (x : ℕ). 0 < x) (sym (w .counts (tierAt (h .words) o) t))
+          (count-pos (liveIn (h .words) (h .clauses) (tierAt (h .words) o)) (length (h .clauses)) (p .0) (p .1)
+          (and-both (not (deletedAt (h .words) (at (h .clauses) (p .0)))) _ (ap not d′) (eq-eqb _ _ (ap (tierAt (h .words)) (p .2)))));
+    }

@@ -64,30 +64,30 @@ unchanged p k four used e =
     let l : p .rec ≡ true → k .state .recorded ≤ length (k .rec) = λ q. record-sized p k e q .used in
     let h : p .host ≡ true → k .host .assigned ≤ length (k .host .trail) = λ q. host-sized p k e q .assigned in
     λ i. record {
-  state = record {
-    vars = k .state .vars;
-    words = k .state .words;
-    clauses = used-same (p .words) (k .clauses) (k .state .clauses) c i;
-    tiers = lens-same (p .tiers) (k .state .tiers) (k .tiers) t i;
-    recorded = used-same (p .rec) (k .rec) (k .state .recorded) l i;
-    counts = k .state .counts;
-    garbage = k .state .garbage;
-    binary = k .state .binary;
-    activity = k .state .activity;
-  };
-  words = k .words;
-  clauses = list-same (p .words) (k .clauses) (k .state .clauses) c i;
-  tiers = tiers-same (p .tiers) (k .state .tiers) (k .tiers) t i;
-  rows = rows-kept (p .rows) (roomOf (k .state .vars) (k .rows)) (k .counts) (k .rows) r i;
-  counts = counts-kept (p .rows) (roomOf (k .state .vars) (k .rows)) (k .counts) (k .rows) r i;
-  rec = list-same (p .rec) (k .rec) (k .state .recorded) l i;
-  host = record {
-    values = k .host .values;
-    kinds = k .host .kinds;
-    reasons = k .host .reasons;
-    levels = k .host .levels;
-    trail = list-same (p .host) (k .host .trail) (k .host .assigned) h i;
-    assigned = used-same (p .host) (k .host .trail) (k .host .assigned) h i;
-    level = k .host .level;
-  };
-}
+      state = record {
+        vars = k .state .vars;
+        words = k .state .words;
+        clauses = used-same (p .words) (k .clauses) (k .state .clauses) c i;
+        tiers = lens-same (p .tiers) (k .state .tiers) (k .tiers) t i;
+        recorded = used-same (p .rec) (k .rec) (k .state .recorded) l i;
+        counts = k .state .counts;
+        garbage = k .state .garbage;
+        binary = k .state .binary;
+        activity = k .state .activity;
+      };
+      words = k .words;
+      clauses = list-same (p .words) (k .clauses) (k .state .clauses) c i;
+      tiers = tiers-same (p .tiers) (k .state .tiers) (k .tiers) t i;
+      rows = rows-kept (p .rows) (roomOf (k .state .vars) (k .rows)) (k .counts) (k .rows) r i;
+      counts = counts-kept (p .rows) (roomOf (k .state .vars) (k .rows)) (k .counts) (k .rows) r i;
+      rec = list-same (p .rec) (k .rec) (k .state .recorded) l i;
+      host = record {
+        values = k .host .values;
+        kinds = k .host .kinds;
+        reasons = k .host .reasons;
+        levels = k .host .levels;
+        trail = list-same (p .host) (k .host .trail) (k .host .assigned) h i;
+        assigned = used-same (p .host) (k .host .trail) (k .host .assigned) h i;
+        level = k .host .level;
+      };
+    }

@@ -3,7 +3,6 @@ use mathlib.Core.Path.{_≡_, refl, sym, ap, _∙_, subst}
 use mathlib.Core.Bool.{Bool, false, _&&_}
 use mathlib.Core.List.{List, [], _∷_}
 use Prim.Native.Nat.{ℕ, zero, suc, _+_, _*_, _<_}
-use native.Mathlib.Nat.{not-suc-le-zero}
 use native.Mathlib.Decide.{ℕ-discrete}
 use native.Mathlib.Omega.{arith}
 use lib.ListN.{length, length-append}
@@ -13,35 +12,14 @@ use Rattle.laws.specs.Fold.{one, sumBelow}
 use Rattle.laws.specs.Lists.{listAt, push, joined}
 use Rattle.laws.specs.Counts.{is, count}
 use Rattle.laws.proofs.Sorting.{is-same, is-other, count-cons, count-nil, count-append}
-use Rattle.laws.proofs.Members.{In, in-head, in-tail, sum-below-same, sum-below-first}
+use Rattle.laws.proofs.Members.{In}
+use Rattle.laws.proofs.Entries.{elem-here, elem-later}
+use Rattle.laws.proofs.Sums.{sum-same, sum-none, sum-add, sum-first, sum-single}
 use Rattle.laws.proofs.Pushes.{pushed-here, pushed-other}
 
-pub sum-below-add : (f g : ℕ → ℕ) (n : ℕ) → sumBelow (λ (i : ℕ). f i + g i) n ≡ sumBelow f n + sumBelow g n
-unfolding sumBelow
-sum-below-add f g zero = omega arith
-sum-below-add f g (suc n) = let e = sum-below-add f g n in omega arith
-
-pub sum-below-zero : (n : ℕ) → sumBelow (λ (i : ℕ). 0) n ≡ 0
-unfolding sumBelow
-sum-below-zero zero = refl
-sum-below-zero (suc n) = let e = sum-below-zero n in omega arith
-
 -- one place counts 1
-pub sum-below-is : (k n : ℕ) → k < n → sumBelow (λ (i : ℕ). is i k) n ≡ 1
-unfolding sumBelow
-sum-below-is k zero h = absurd (not-suc-le-zero h)
-sum-below-is k (suc n) h = go (sum-below-is k n) (ℕ-discrete n k)
-  where
-    go : (k < n → sumBelow (λ (i : ℕ). is i k) n ≡ 1) → Dec (n ≡ k) → sumBelow (λ (i : ℕ). is i k) n + is n k ≡ 1
-    go ih (yes e) =
-        let a = is-same n k e in
-        let b = sum-below-same (λ (i : ℕ). is i k) (λ (i : ℕ). 0) n (λ i l. is-other i k (λ q. omega arith)) in
-        let c = sum-below-zero n in
-        omega arith
-    go ih (no e) =
-        let a = is-other n k e in
-        let b = ih (omega arith) in
-        omega arith
+pub sum-is : (k n : ℕ) → k < n → sumBelow (λ (i : ℕ). is i k) n ≡ 1
+sum-is k n h = sum-single (λ (i : ℕ). is i k) n k h (λ i l q. is-other i k q) ∙ is-same k k refl
 
 pub is-swap : (x y : ℕ) → is x y ≡ is y x
 is-swap x y = go (ℕ-discrete x y)
@@ -52,12 +30,12 @@ is-swap x y = go (ℕ-discrete x y)
 
 -- a list's length is the sum of its counts
 pub length-counts : (n : ℕ) (l : List ℕ) → ((x : ℕ) → In x l → x < n) → length l ≡ sumBelow (λ (x : ℕ). count x l) n
-length-counts n [] h = sym (sum-below-same (λ (x : ℕ). count x []) (λ (x : ℕ). 0) n (λ i k. count-nil i) ∙ sum-below-zero n)
+length-counts n [] h = sym (sum-none (λ (x : ℕ). count x []) n (λ i k. count-nil i))
 length-counts n (y ∷ l) h =
-    let ih = length-counts n l (λ x m. h x (in-tail x y l m)) in
-    let a = sum-below-same (λ (x : ℕ). count x (y ∷ l)) (λ (x : ℕ). is x y + count x l) n (λ i k. count-cons i y l ∙ ap (λ (z : ℕ). z + count i l) (is-swap y i)) in
-    let b = sum-below-add (λ (x : ℕ). is x y) (λ (x : ℕ). count x l) n in
-    let c = sum-below-is y n (h y (in-head y l)) in
+    let ih = length-counts n l (λ x m. h x (elem-later x y l m)) in
+    let a = sum-same (λ (x : ℕ). count x (y ∷ l)) (λ (x : ℕ). is x y + count x l) n (λ i k. count-cons i y l ∙ ap (λ (z : ℕ). z + count i l) (is-swap y i)) in
+    let b = sum-add (λ (x : ℕ). is x y) (λ (x : ℕ). count x l) n in
+    let c = sum-is y n (h y (elem-here y l)) in
     omega arith
 
 pub count-in : (x : ℕ) (l : List ℕ) → 0 < count x l → In x l
@@ -65,8 +43,8 @@ count-in x [] h = absurd (let z = count-nil x in omega arith)
 count-in x (y ∷ l) h = go (count-in x l) (ℕ-discrete x y)
   where
     go : (0 < count x l → In x l) → Dec (x ≡ y) → In x (y ∷ l)
-    go ih (yes e) = subst (λ (z : ℕ). In x (z ∷ l)) e (in-head x l)
-    go ih (no e) = in-tail x y l (ih (let a = count-cons x y l in let b = is-other y x (λ q. e (sym q)) in omega arith))
+    go ih (yes e) = subst (λ (z : ℕ). In x (z ∷ l)) e (elem-here x l)
+    go ih (no e) = elem-later x y l (ih (let a = count-cons x y l in let b = is-other y x (λ q. e (sym q)) in omega arith))
 
 -- ---- a symmetric table with nothing on its diagonal: twice what stands below the diagonal
 
@@ -76,8 +54,8 @@ unfolding sumBelow
 symmetric-sum m zero s d = omega arith
 symmetric-sum m (suc n) s d =
     let ih = symmetric-sum m n (λ a b h k. s a b (omega arith) (omega arith)) (λ a h. d a (omega arith)) in
-    let rows = sum-below-add (λ (a : ℕ). sumBelow (λ (b : ℕ). m a b) n) (λ (a : ℕ). m a n) n in
-    let column = sum-below-same (λ (a : ℕ). m a n) (λ (b : ℕ). m n b) n (λ i h. s i n (omega arith) (omega arith)) in
+    let rows = sum-add (λ (a : ℕ). sumBelow (λ (b : ℕ). m a b) n) (λ (a : ℕ). m a n) n in
+    let column = sum-same (λ (a : ℕ). m a n) (λ (b : ℕ). m n b) n (λ i h. s i n (omega arith) (omega arith)) in
     let corner = d n (omega arith) in
     omega arith
 
@@ -103,4 +81,4 @@ count-push ts t o h c y = go (ℕ-discrete c t)
 pub length-joined : (ls : List (List ℕ)) → length (joined ls) ≡ sumBelow (λ (c : ℕ). length (listAt ls c)) (length ls)
 unfolding joined sumBelow
 length-joined [] = refl
-length-joined (l ∷ ls) = length-append l (joined ls) ∙ ap (λ (n : ℕ). length l + n) (length-joined ls) ∙ sym (sum-below-first (λ (c : ℕ). length (listAt (l ∷ ls) c)) (length ls))
+length-joined (l ∷ ls) = length-append l (joined ls) ∙ ap (λ (n : ℕ). length l + n) (length-joined ls) ∙ sym (sum-first (λ (c : ℕ). length (listAt (l ∷ ls) c)) (length ls))

@@ -11,7 +11,7 @@ use lib.Seq.{sets, length-sets}
 use lib.Dec.{eqb}
 use borrow.Author.Tests.{ne-eqb}
 use Rattle.laws.specs.Lists.{at, listAt, snoc, push, more}
-use Rattle.laws.proofs.Members.{In, in-left, in-last, in-snoc, sum-append, sum-same}
+use Rattle.laws.proofs.Members.{In, in-left, in-last, in-snoc, sum-append, sum-each}
 use Rattle.laws.proofs.Pushes.{in-pushed, in-push, push-cases, length-push, more-here, more-other, length-more}
 use Rattle.laws.proofs.Reading.{at-sets-below, at-sets}
 use Rattle.kinds.specs.Header.{tierOf, deletedOf, newHead}
@@ -126,12 +126,12 @@ module _ {v : ℕ} {w : List ℕ} {used : ℕ} {l cs : List ℕ} {g : ℕ} {ts :
         let a = new-count k h in
         let b = S .counts k h in
         let c = sum-append (inTier u k) l (used ∷ []) in
-        let d = sum-same (inTier u k) (inTier w k) l (λ x m. in-tier-same w u x (own x m) k) in
+        let d = sum-each (inTier u k) (inTier w k) l (λ x m. in-tier-same w u x (own x m) k) in
         omega arith;
     garbage =
         let a = S .garbage in
         let b = sum-append (liveWords u) l (used ∷ []) in
-        let c = sum-same (liveWords u) (liveWords w) l (λ x m. live-words-same w u x (own x m)) in
+        let c = sum-each (liveWords u) (liveWords w) l (λ x m. live-words-same w u x (own x m)) in
         let d = words-live u used new-lives in
         let e = new-len in
         omega arith;

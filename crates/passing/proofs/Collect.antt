@@ -12,7 +12,8 @@ use lib.Dec.{eqb}
 use borrow.Author.Tests.{eq-eqb, eqb-true, eqb-false}
 use Rattle.laws.specs.Fold.{foldList}
 use Rattle.laws.specs.Lists.{at, listAt, joined, starts, fill}
-use Rattle.laws.proofs.Members.{In, in-nil, in-head, in-tail, in-cases, in-at, sumList}
+use Rattle.laws.proofs.Members.{In, sumList}
+use Rattle.laws.proofs.Entries.{elem-none, elem-here, elem-later, elem-cases, elem-index}
 use Rattle.laws.proofs.Pushes.{at-other, at-same}
 use Rattle.laws.proofs.Reading.{length-read, at-read}
 use Rattle.laws.proofs.Fills.{at-fill-in, length-fill}
@@ -118,26 +119,26 @@ module _ (w u : List ℕ) where
   -- each new place is a copy of an old one
   new-old : (os : List ℕ) (k : ℕ) → Laid u k (joined (blocks w os)) → (n : ℕ) → In n (starts k (blocks w os)) → (o : ℕ) × In o os × Copy w u o n
   unfolding blocks joined starts
-  new-old [] k b n m = absurd (in-nil n m)
-  new-old (o ∷ os) k b n m = go (new-old os (k + length (wordsAt w o)) (rest-laid w u k o os b) n) (in-cases n k (starts (k + length (wordsAt w o)) (blocks w os)) m)
+  new-old [] k b n m = absurd (elem-none n m)
+  new-old (o ∷ os) k b n m = go (new-old os (k + length (wordsAt w o)) (rest-laid w u k o os b) n) (elem-cases n k (starts (k + length (wordsAt w o)) (blocks w os)) m)
     where
       go : (In n (starts (k + length (wordsAt w o)) (blocks w os)) → (x : ℕ) × In x os × Copy w u x n) → (n ≡ k) ⊎ In n (starts (k + length (wordsAt w o)) (blocks w os)) → (x : ℕ) × In x (o ∷ os) × Copy w u x n
-      go ih (inl e) = (o, in-head o os, subst (λ (z : ℕ). Copy w u o z) (sym e) (first-copy w u k o os b))
-      go ih (inr q) = let r = ih q in (r .0, in-tail (r .0) o os (r .1), r .2)
+      go ih (inl e) = (o, elem-here o os, subst (λ (z : ℕ). Copy w u o z) (sym e) (first-copy w u k o os b))
+      go ih (inr q) = let r = ih q in (r .0, elem-later (r .0) o os (r .1), r .2)
 
   -- "long reasons on the trail follow"
   old-new : (os : List ℕ) (k : ℕ) → Laid u k (joined (blocks w os)) → (o : ℕ) → In o os → In (newPlace os (starts k (blocks w os)) o) (starts k (blocks w os)) × Copy w u o (newPlace os (starts k (blocks w os)) o)
   unfolding blocks joined starts newPlace
-  old-new [] k b o m = absurd (in-nil o m)
+  old-new [] k b o m = absurd (elem-none o m)
   old-new (y ∷ os) k b o m = go (eqb y o) refl (old-new os (k + length (wordsAt w y)) (rest-laid w u k y os b) o)
     where
       go : (t : Bool) → eqb y o ≡ t
           → (In o os → In (newPlace os (starts (k + length (wordsAt w y)) (blocks w os)) o) (starts (k + length (wordsAt w y)) (blocks w os)) × Copy w u o (newPlace os (starts (k + length (wordsAt w y)) (blocks w os)) o))
           → In (cond t k (newPlace os (starts (k + length (wordsAt w y)) (blocks w os)) o)) (k ∷ starts (k + length (wordsAt w y)) (blocks w os)) × Copy w u o (cond t k (newPlace os (starts (k + length (wordsAt w y)) (blocks w os)) o))
-      go true e ih = (in-head k (starts (k + length (wordsAt w y)) (blocks w os)), subst (λ (z : ℕ). Copy w u z k) (eqb-true y o e) (first-copy w u k y os b))
+      go true e ih = (elem-here k (starts (k + length (wordsAt w y)) (blocks w os)), subst (λ (z : ℕ). Copy w u z k) (eqb-true y o e) (first-copy w u k y os b))
       go false e ih =
-          let r = ih (⊎-elim (λ q. absurd (eqb-false y o e (sym q))) (λ q. q) (in-cases o y os m)) in
-          (in-tail (newPlace os (starts (k + length (wordsAt w y)) (blocks w os)) o) k (starts (k + length (wordsAt w y)) (blocks w os)) (r .0), r .1)
+          let r = ih (⊎-elim (λ q. absurd (eqb-false y o e (sym q))) (λ q. q) (elem-cases o y os m)) in
+          (elem-later (newPlace os (starts (k + length (wordsAt w y)) (blocks w os)) o) k (starts (k + length (wordsAt w y)) (blocks w os)) (r .0), r .1)
 
   new-counts : (t : ℕ) (os : List ℕ) (k : ℕ) → Laid u k (joined (blocks w os)) → sumList (inTier u t) (starts k (blocks w os)) ≡ sumList (inTier w t) os
   unfolding blocks joined starts
@@ -185,18 +186,18 @@ of-tier-in u t [] x m = m
 of-tier-in u t (o ∷ os) x m = go (eqb (tierAt u o) t) m (of-tier-in u t os x)
   where
     go : (b : Bool) → In x (cond b (o ∷ ofTier u t os) (ofTier u t os)) → (In x (ofTier u t os) → In x os) → In x (o ∷ os)
-    go true n ih = ⊎-elim (λ e. subst (λ (z : ℕ). In x (z ∷ os)) e (in-head x os)) (λ q. in-tail x o os (ih q)) (in-cases x o (ofTier u t os) n)
-    go false n ih = in-tail x o os (ih n)
+    go true n ih = ⊎-elim (λ e. subst (λ (z : ℕ). In x (z ∷ os)) e (elem-here x os)) (λ q. elem-later x o os (ih q)) (elem-cases x o (ofTier u t os) n)
+    go false n ih = elem-later x o os (ih n)
 
 in-of-tier : (u os : List ℕ) (x : ℕ) → In x os → In x (ofTier u (tierAt u x) os)
 unfolding ofTier
 in-of-tier u [] x m = m
-in-of-tier u (o ∷ os) x m = go (in-of-tier u os x) (in-cases x o os m) (eqb (tierAt u o) (tierAt u x)) refl
+in-of-tier u (o ∷ os) x m = go (in-of-tier u os x) (elem-cases x o os m) (eqb (tierAt u o) (tierAt u x)) refl
   where
     go : (In x os → In x (ofTier u (tierAt u x) os)) → (x ≡ o) ⊎ In x os → (b : Bool) → eqb (tierAt u o) (tierAt u x) ≡ b → In x (cond b (o ∷ ofTier u (tierAt u x) os) (ofTier u (tierAt u x) os))
-    go ih (inl e) true f = subst (λ (z : ℕ). In x (z ∷ ofTier u (tierAt u x) os)) e (in-head x (ofTier u (tierAt u x) os))
+    go ih (inl e) true f = subst (λ (z : ℕ). In x (z ∷ ofTier u (tierAt u x) os)) e (elem-here x (ofTier u (tierAt u x) os))
     go ih (inl e) false f = absurd (eqb-false (tierAt u o) (tierAt u x) f (ap (tierAt u) (sym e)))
-    go ih (inr q) true f = in-tail x o (ofTier u (tierAt u x) os) (ih q)
+    go ih (inr q) true f = elem-later x o (ofTier u (tierAt u x) os) (ih q)
     go ih (inr q) false f = ih q
 
 -- ---- the host's side
@@ -241,8 +242,8 @@ module _ (s : Side) (old new : List ℕ) where
 
   follow-in : (ls rs : List ℕ) (l : ℕ) → In l ls → kindOf s l ≡ 3 → varOf l < length rs → at (foldList (followed s old new) rs ls) (varOf l) ≡ goal (varOf l)
   unfolding foldList followed
-  follow-in [] rs l m k h = absurd (in-nil l m)
-  follow-in (y ∷ ls) rs l m k h = go (follow-in ls (followed s old new rs y) l) (in-cases l y ls m)
+  follow-in [] rs l m k h = absurd (elem-none l m)
+  follow-in (y ∷ ls) rs l m k h = go (follow-in ls (followed s old new rs y) l) (elem-cases l y ls m)
     where
       long : (b : Bool) → varOf l < length (cond b (set rs (varOf y) (newPlace old new (reasonWord s y))) rs)
       long true = let q = length-set rs (varOf y) (newPlace old new (reasonWord s y)) in omega arith
@@ -353,7 +354,7 @@ module _ (h : Held) (d : Whole h []) where
       let n = old-new w u old 0 laid o m in
       let low : x < 2 * h .vars = subst (λ (z : ℕ). at (s .trail) z < 2 * h .vars) (let e : 0 + j ≡ j = omega arith in e) (d .sided .side .trail .below j k) in
       let inside : varOf x < length (s .reasons) = let z = d .sided .reasonsLong in omega arith in
-      subst (λ (z : ℕ). ReasonIn u new (s .values) x z) (sym (follow-in s old new (s .trail) (s .reasons) x (in-at (s .trail) j k) q inside))
+      subst (λ (z : ℕ). ReasonIn u new (s .values) x z) (sym (follow-in s old new (s .trail) (s .reasons) x (elem-index (s .trail) j k) q inside))
       (copy-reason w u o (newPlace old new o) (n .1) (h .clauses) new (s .values) x (S .clause o m (c .live .1) .three) (live (newPlace old new o) (n .0)) c)
 
   closed-good : Whole (closedUp h) []

@@ -6,7 +6,8 @@ use mathlib.Core.List.{List, [], _∷_, _++_, append-assoc}
 use Prim.Native.Nat.{ℕ}
 use native.Mathlib.Omega.{arith}
 use Rattle.laws.specs.Lists.{snoc}
-use Rattle.laws.proofs.Members.{In, in-nil, in-head, in-left, in-right, in-tail, in-cases, in-append, sumList, sum-append}
+use Rattle.laws.proofs.Members.{In, in-left, in-right, in-append, sumList, sum-append}
+use Rattle.laws.proofs.Entries.{elem-none, elem-here, elem-later, elem-cases}
 use Rattle.kinds.specs.Clauses.{deletedAt, undeleted}
 use Rattle.kinds.specs.Held.{Side}
 use Rattle.passing.proofs.Store.{inTier, liveWords, chain-drop, Stale, Live, Store}
@@ -15,10 +16,10 @@ use Rattle.passing.proofs.Changes.{in-tier-gone, words-gone}
 
 module _ (w a : List ℕ) (o : ℕ) (b : List ℕ) where
   pub in-more : (x : ℕ) → In x (a ++ b) → In x (a ++ (o ∷ b))
-  in-more x m = ⊎-elim (λ q. in-left x a (o ∷ b) q) (λ q. in-right x a (o ∷ b) (in-tail x o b q)) (in-append x a b m)
+  in-more x m = ⊎-elim (λ q. in-left x a (o ∷ b) q) (λ q. in-right x a (o ∷ b) (elem-later x o b q)) (in-append x a b m)
 
   pub in-less : (x : ℕ) → In x (a ++ (o ∷ b)) → (x ≡ o → ⊥) → In x (a ++ b)
-  in-less x m n = ⊎-elim (λ q. in-left x a b q) (λ q. ⊎-elim (λ e. absurd (n e)) (λ r. in-right x a b r) (in-cases x o b q)) (in-append x a (o ∷ b) m)
+  in-less x m n = ⊎-elim (λ q. in-left x a b q) (λ q. ⊎-elim (λ e. absurd (n e)) (λ r. in-right x a b r) (elem-cases x o b q)) (in-append x a (o ∷ b) m)
 
   module _ (gone : deletedAt w o ≡ true) where
     live-less : (x : ℕ) → Live w (a ++ (o ∷ b)) x → Live w (a ++ b) x
@@ -69,24 +70,24 @@ module _ (w : List ℕ) (P : List ℕ → Type 0) (drop : (a : List ℕ) (o : �
 -- what is left is live
 pub undeleted-live : (w l : List ℕ) (x : ℕ) → In x (undeleted w l) → Live w l x
 unfolding undeleted
-undeleted-live w [] x m = absurd (in-nil x m)
+undeleted-live w [] x m = absurd (elem-none x m)
 undeleted-live w (o ∷ l) x m = go (deletedAt w o) refl m (undeleted-live w l x)
   where
     go : (t : Bool) → deletedAt w o ≡ t → In x (cond t (undeleted w l) (o ∷ undeleted w l)) → (In x (undeleted w l) → Live w l x) → Live w (o ∷ l) x
-    go true e n ih = let r = ih n in (in-tail x o l (r .0), r .1)
+    go true e n ih = let r = ih n in (elem-later x o l (r .0), r .1)
     go false e n ih = ⊎-elim
-        (λ q. (subst (λ (z : ℕ). In z (o ∷ l)) (sym q) (in-head o l), subst (λ (z : ℕ). deletedAt w z ≡ false) (sym q) e))
-        (λ q. let r = ih q in (in-tail x o l (r .0), r .1))
-        (in-cases x o (undeleted w l) n)
+        (λ q. (subst (λ (z : ℕ). In z (o ∷ l)) (sym q) (elem-here o l), subst (λ (z : ℕ). deletedAt w z ≡ false) (sym q) e))
+        (λ q. let r = ih q in (elem-later x o l (r .0), r .1))
+        (elem-cases x o (undeleted w l) n)
 
 -- and what is live is left
 pub live-undeleted : (w l : List ℕ) (x : ℕ) → Live w l x → In x (undeleted w l)
 unfolding undeleted
 live-undeleted w [] x h = h .0
-live-undeleted w (o ∷ l) x h = go (deletedAt w o) refl (live-undeleted w l x) (in-cases x o l (h .0))
+live-undeleted w (o ∷ l) x h = go (deletedAt w o) refl (live-undeleted w l x) (elem-cases x o l (h .0))
   where
     go : (t : Bool) → deletedAt w o ≡ t → (Live w l x → In x (undeleted w l)) → (x ≡ o) ⊎ In x l → In x (cond t (undeleted w l) (o ∷ undeleted w l))
     go true e ih (inl q) = absurd (true≢false (sym e ∙ subst (λ (z : ℕ). deletedAt w z ≡ false) q (h .1)))
     go true e ih (inr q) = ih (q, h .1)
-    go false e ih (inl q) = subst (λ (z : ℕ). In z (o ∷ undeleted w l)) (sym q) (in-head o (undeleted w l))
-    go false e ih (inr q) = in-tail x o (undeleted w l) (ih (q, h .1))
+    go false e ih (inl q) = subst (λ (z : ℕ). In z (o ∷ undeleted w l)) (sym q) (elem-here o (undeleted w l))
+    go false e ih (inr q) = elem-later x o (undeleted w l) (ih (q, h .1))

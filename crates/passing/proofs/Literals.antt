@@ -12,7 +12,8 @@ use borrow.Author.Tests.{ltb-false}
 use Rattle.laws.specs.Fold.{one}
 use Rattle.laws.specs.Lists.{at, readN}
 use Rattle.laws.proofs.Reading.{length-read, at-read}
-use Rattle.laws.proofs.Members.{In, in-head, in-tail, in-cases, in-at, in-place}
+use Rattle.laws.proofs.Members.{In}
+use Rattle.laws.proofs.Entries.{elem-here, elem-later, elem-cases, elem-index, elem-place}
 use Rattle.kinds.specs.Clauses.{varOf}
 use Rattle.kinds.specs.Held.{isTrue, isOpen, isFalse}
 use Rattle.calls.specs.Refusing.{openCount, lacking}
@@ -31,7 +32,7 @@ vars-below v (x ∷ l) (a, b, c) (suc j) h = vars-below v l c j (le-of-suc-le-su
 pub vars-apart : (v : ℕ) (l : List ℕ) → Vars v l → (j k : ℕ) → j < length l → k < j → varOf (at l k) ≡ varOf (at l j) → ⊥
 vars-apart v [] c j k h f e = absurd (not-suc-le-zero h)
 vars-apart v (x ∷ l) c zero k h f e = absurd (not-suc-le-zero f)
-vars-apart v (x ∷ l) (a, b, c) (suc j) zero h f e = b (at l j) (in-at l j (le-of-suc-le-suc h)) (sym e)
+vars-apart v (x ∷ l) (a, b, c) (suc j) zero h f e = b (at l j) (elem-index l j (le-of-suc-le-suc h)) (sym e)
 vars-apart v (x ∷ l) (a, b, c) (suc j) (suc k) h f e = vars-apart v l c j k (le-of-suc-le-suc h) (le-of-suc-le-suc f) e
 
 pub lits-vars : (w : List ℕ) (v s n : ℕ) → Lits w v s n → Vars v (readN w s n)
@@ -40,7 +41,7 @@ lits-vars w v s zero c = tt
 lits-vars w v s (suc n) c = (
   subst (λ (z : ℕ). at w z < 2 * v) (plus-zero s) (c .below 0 (omega arith)),
   (λ y m e.
-      let r = in-place y (readN w (suc s) n) m in
+      let r = elem-place y (readN w (suc s) n) m in
       let k : r .0 < n = let q = length-read w (suc s) n in let z = r .1 in omega arith in
       let there : at w (s + suc (r .0)) ≡ y = ap (at w) (shift s (r .0)) ∙ sym (at-read w (suc s) n (r .0) k) ∙ r .2 in
       c .apart (suc (r .0)) 0 (omega arith) (omega arith) (ap (λ (z : ℕ). varOf (at w z)) (plus-zero s) ∙ sym e ∙ ap varOf (sym there))),
@@ -64,8 +65,8 @@ unfalsified-in a [] x m = m
 unfalsified-in a (y ∷ l) x m = go (isFalse a y) m (unfalsified-in a l x)
   where
     go : (b : Bool) → In x (cond b (unfalsified a l) (y ∷ unfalsified a l)) → (In x (unfalsified a l) → In x l) → In x (y ∷ l)
-    go true n ih = in-tail x y l (ih n)
-    go false n ih = ⊎-elim (λ e. subst (λ (z : ℕ). In x (z ∷ l)) e (in-head x l)) (λ q. in-tail x y l (ih q)) (in-cases x y (unfalsified a l) n)
+    go true n ih = elem-later x y l (ih n)
+    go false n ih = ⊎-elim (λ e. subst (λ (z : ℕ). In x (z ∷ l)) e (elem-here x l)) (λ q. elem-later x y l (ih q)) (elem-cases x y (unfalsified a l) n)
 
 pub unfalsified-vars : (v : ℕ) (a l : List ℕ) → Vars v l → Vars v (unfalsified a l)
 unfolding unfalsified

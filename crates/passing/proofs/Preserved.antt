@@ -1,8 +1,8 @@
 -- AN ACCEPTED CALL LEAVES A STORE AND A HOST SIDE THAT PASS: one law for each command, and all of them. Assumes nothing.
 use mathlib.Core.Path.{_≡_, refl, sym, ap, _∙_, subst}
 use mathlib.Core.Bool.{Bool, true, false, cond}
-use mathlib.Core.List.{List, [], _∷_}
-use Prim.Native.Nat.{ℕ, suc, _≤_}
+use mathlib.Core.List.{List, []}
+use Prim.Native.Nat.{ℕ, _≤_}
 use native.Mathlib.Omega.{arith}
 use lib.ListN.{length}
 use lib.Dec.{T}
@@ -12,7 +12,8 @@ use Rattle.laws.proofs.Folds.{and-both, and-left, and-right}
 use Rattle.kinds.specs.Lent.{Lent, roomOf}
 use Rattle.kinds.specs.Held.{Held}
 use Rattle.kinds.specs.Layout.{side, view, layState, lay, fit}
-use Rattle.kinds.proofs.RowLayout.{length-rows, length-lengths}
+use Rattle.laws.proofs.Writing.{length-fillEach, length-lengths}
+use Rattle.kinds.proofs.RowLayout.{length-rows}
 use Rattle.calls.specs.Call.{Command, addClause, setTier, delete, addBinary, implied, literals, assess, bump, decay, setDecay, reduceLocals, reduceMids, collect, proveUnits, unitSimplify, emptyRecord, viewFields, viewLiteral, parts, everything}
 use Rattle.calls.specs.Size.{sizesOk}
 use Rattle.calls.specs.StorePasses.{storePasses}
@@ -94,7 +95,7 @@ pub add-binary-passes : (ls : List ℕ) (h : Held) → Whole h [] → refusedFor
 unfolding addedPair
 add-binary-passes ls h d e =
     let a = add-binary-asked h ls e in
-    let two = a .least in
+    let two = a .low in
     record {
       store = d .store;
       quiet = d .quiet;
@@ -152,13 +153,6 @@ step-passes (viewLiteral ws i) h y d e room = d
 
 -- ---- after: what the buffers hold is what the step made, and their sizes are right
 
-each-long : (bs : List (List ℕ)) (ns : List ℕ) (ls : List (List ℕ)) → length (fillEach bs ns ls) ≡ length bs
-unfolding fillEach
-each-long [] ns ls = refl
-each-long (b ∷ bs) [] ls = refl
-each-long (b ∷ bs) (n ∷ ns) [] = refl
-each-long (b ∷ bs) (n ∷ ns) (l ∷ ls) = ap suc (each-long bs ns ls)
-
 module _ (c : Command) (k : Lent) (Y : TypedCall c) (K : Kept k) (z : number c k ≡ 0) where
   abbrev h : Held
   h = view k
@@ -193,7 +187,7 @@ module _ (c : Command) (k : Lent) (Y : TypedCall c) (K : Kept k) (z : number c k
   }
     where
       lists-after : (b : Bool) → length (cond b (fillEach (k .tiers) (k .state .tiers) (after .tiers)) (k .tiers)) ≡ 4
-      lists-after true = each-long (k .tiers) (k .state .tiers) (after .tiers) ∙ K .typed .lists
+      lists-after true = length-fillEach (k .tiers) (k .state .tiers) (after .tiers) ∙ K .typed .lists
       lists-after false = K .typed .lists
 
       lengths-after : (b : Bool) → length (cond b (lengths (after .tiers)) (k .state .tiers)) ≡ 4

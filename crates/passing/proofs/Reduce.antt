@@ -12,7 +12,8 @@ use lib.Dec.{eqb}
 use borrow.Author.Tests.{eq-eqb, ne-eqb, eqb-true, not-false}
 use Rattle.laws.specs.Fold.{foldList}
 use Rattle.laws.specs.Lists.{listAt, snoc, elem, push, sortBy}
-use Rattle.laws.proofs.Members.{In, in-nil, in-head, in-tail, in-cases, in-left, in-last, in-snoc, Distinct}
+use Rattle.laws.proofs.Members.{In, in-left, in-last, in-snoc, Distinct}
+use Rattle.laws.proofs.Entries.{elem-none, elem-here, elem-later, elem-cases}
 use Rattle.laws.proofs.Distinct.{distinct-snoc, sort-in, in-sort, distinct-sort}
 use Rattle.laws.proofs.Pushes.{at-other, in-pushed, in-push, push-cases, length-push}
 use Rattle.kinds.specs.Header.{withActive, withTier, withDeleted}
@@ -35,9 +36,9 @@ module _ (w : List ℕ) (t : ℕ) where
   firsts-in (o ∷ os) acc x m = go (stale w t o || elem o acc) refl (firsts-in os (keptFirst w t acc o) x m)
     where
       go : (b : Bool) → stale w t o || elem o acc ≡ b → In x (cond b acc (snoc acc o)) ⊎ (In x os × (stale w t x ≡ false)) → In x acc ⊎ (In x (o ∷ os) × (stale w t x ≡ false))
-      go b e (inr q) = inr (in-tail x o os (q .0), q .1)
+      go b e (inr q) = inr (elem-later x o os (q .0), q .1)
       go true e (inl q) = inl q
-      go false e (inl q) = ⊎-elim (λ r. inl r) (λ r. inr (subst (λ (z : ℕ). In z (o ∷ os)) (sym r) (in-head o os), subst (λ (z : ℕ). stale w t z ≡ false) (sym r) (neither (stale w t o) (elem o acc) e))) (in-snoc x o acc q)
+      go false e (inl q) = ⊎-elim (λ r. inl r) (λ r. inr (subst (λ (z : ℕ). In z (o ∷ os)) (sym r) (elem-here o os), subst (λ (z : ℕ). stale w t z ≡ false) (sym r) (neither (stale w t o) (elem o acc) e))) (in-snoc x o acc q)
         where
           neither : (a c : Bool) → a || c ≡ false → a ≡ false
           neither true c f = absurd (true≢false f)
@@ -54,8 +55,8 @@ module _ (w : List ℕ) (t : ℕ) where
 
   in-firsts : (os acc : List ℕ) (x : ℕ) → In x os → stale w t x ≡ false → In x (foldList (keptFirst w t) acc os)
   unfolding foldList keptFirst
-  in-firsts [] acc x m s = absurd (in-nil x m)
-  in-firsts (o ∷ os) acc x m s = pick (in-cases x o os m) (in-firsts os (keptFirst w t acc o) x)
+  in-firsts [] acc x m s = absurd (elem-none x m)
+  in-firsts (o ∷ os) acc x m s = pick (elem-cases x o os m) (in-firsts os (keptFirst w t acc o) x)
     where
       here : (a c : Bool) → a ≡ false → elem o acc ≡ c → In o (cond (a || c) acc (snoc acc o))
       here true c f e = absurd (true≢false f)
@@ -98,7 +99,7 @@ Ready w l t os = (x : ℕ) → In x os → Live w l x × (tierAt w x ≡ t)
 module _ (h : Held) (d : Whole h []) (t : ℕ) (k : t < 4) where
   pub cleaned-ready : Ready (h .words) (h .clauses) t (cleanedTier t h)
   unfolding cleanedTier
-  cleaned-ready x m = ⊎-elim (λ q. absurd (in-nil x q)) (λ q. ⊎-elim
+  cleaned-ready x m = ⊎-elim (λ q. absurd (elem-none x q)) (λ q. ⊎-elim
       (λ a. (a, fresh-tier (h .words) t x (q .1)))
       (λ s. absurd (true≢false (sym (s .deleted) ∙ fresh-deleted (h .words) t x (q .1))))
       (d .store .entry t x k (q .0))) (firsts-in (h .words) t (listAt (h .tiers) t) [] x m)
@@ -111,7 +112,7 @@ module _ (h : Held) (d : Whole h []) (t : ℕ) (k : t < 4) where
   emptied-in j x m = go (ℕ-discrete j t)
     where
       go : Dec (j ≡ t) → In x (listAt (h .tiers) j)
-      go (yes e) = absurd (in-nil x (subst (λ (l : List ℕ). In x l) (getD-set-same (h .tiers) t [] [] (let q = d .store .fourLists in omega arith)) (subst (λ (z : ℕ). In x (listAt (set (h .tiers) t []) z)) e m)))
+      go (yes e) = absurd (elem-none x (subst (λ (l : List ℕ). In x l) (getD-set-same (h .tiers) t [] [] (let q = d .store .fourLists in omega arith)) (subst (λ (z : ℕ). In x (listAt (set (h .tiers) t []) z)) e m)))
       go (no e) = subst (λ (l : List ℕ). In x l) (getD-set-other (h .tiers) t j [] [] e) m
 
   pub emptied-good : (os : List ℕ) → ((x : ℕ) → In x (cleanedTier t h) → In x os) → Whole (tierEmptied t h) os
@@ -136,7 +137,7 @@ module _ (h : Held) (d : Whole h []) (t : ℕ) (k : t < 4) where
   }
     where
       covers : (o : ℕ) → In o (h .clauses) → deletedAt (h .words) o ≡ false → In o (listAt (set (h .tiers) t []) (tierAt (h .words) o)) ⊎ In o os
-      covers o m f = ⊎-elim (λ q. go q (ℕ-discrete (tierAt (h .words) o) t)) (λ q. absurd (in-nil o q)) (d .store .covered o m f)
+      covers o m f = ⊎-elim (λ q. go q (ℕ-discrete (tierAt (h .words) o) t)) (λ q. absurd (elem-none o q)) (d .store .covered o m f)
         where
           go : In o (listAt (h .tiers) (tierAt (h .words) o)) → Dec (tierAt (h .words) o ≡ t) → In o (listAt (set (h .tiers) t []) (tierAt (h .words) o)) ⊎ In o os
           go q (yes e) = inr (more o (in-firsts (h .words) t (listAt (h .tiers) t) [] o (subst (λ (z : ℕ). In o (listAt (h .tiers) z)) e q) (fresh (h .words) t o f e)))
@@ -170,13 +171,13 @@ listed-good h p p' d o a t e still =
 
 -- the first of those to be entered is done
 first-done : (o : ℕ) (os : List ℕ) → Still o (o ∷ os) os
-first-done o os x n m = ⊎-elim (λ e. absurd (n e)) (λ q. q) (in-cases x o os m)
+first-done o os x n m = ⊎-elim (λ e. absurd (n e)) (λ q. q) (elem-cases x o os m)
 
 -- word 1 of one clause changed: the others are as ready as before
 ready-rest : (w l : List ℕ) (t o : ℕ) (os : List ℕ) (f : ℕ → ℕ) → Ready w l t (o ∷ os) → (In o os → ⊥) → Ready (changeHead f o w) l t os
 ready-rest w l t o os f r n x m =
     let e : headAt (changeHead f o w) x ≡ headAt w x = at-other w (o + 1) (f (headAt w o)) (x + 1) (λ q. n (subst (λ (z : ℕ). In z os) (same x o q) m)) in
-    let a = r x (in-tail x o os m) in
+    let a = r x (elem-later x o os m) in
     ((a .0 .0, rw e (a .0 .1)), rw e (a .1))
   where
     same : (a b : ℕ) → a + 1 ≡ b + 1 → a ≡ b
@@ -192,10 +193,10 @@ unfolding midDone midKept tierSet movedTo
 mid-step o os k n (d, r) = go (activeAt (k .words) o)
   where
     a : Live (k .words) (k .clauses) o
-    a = r o (in-head o os) .0
+    a = r o (elem-here o os) .0
 
     two : tierAt (k .words) o ≡ 2
-    two = r o (in-head o os) .1
+    two = r o (elem-here o os) .1
 
     go : (b : Bool) → MidsLeft os (cond b (listIn 2 o (withWords (changeHead (withActive false) o (k .words)) k)) (tierSet 3 o k))
     go true =
@@ -233,10 +234,10 @@ unfolding localDone spared struck removed strikeNoted
 local-step o os r n (d, q) = go (spared r o) refl
   where
     a : Live (r .held .words) (r .held .clauses) o
-    a = q o (in-head o os) .0
+    a = q o (elem-here o os) .0
 
     go : (b : Bool) → spared r o ≡ b → LocalsLeft os (cond b (record { left = r .left; held = listIn 3 o (r .held) }) (record { left = r .left - 1; held = deleted o (r .held) }))
-    go true e = (listed-good (r .held) (o ∷ os) os d o a 3 (q o (in-head o os) .1) (first-done o os), (λ x m. q x (in-tail x o os m)))
+    go true e = (listed-good (r .held) (o ∷ os) os d o a 3 (q o (elem-here o os) .1) (first-done o os), (λ x m. q x (elem-later x o os m)))
     go false e = (
       struck-good (r .held) (r .held .clauses) (o ∷ os) d o (a .0) (a .1) 4 (no-reason (r .held) (r .held .clauses) (o ∷ os) d o (a .0) (a .1) (second (eqb (r .left) 0) (asserting (r .held) o) e)) os (first-done o os),
       ready-rest (r .held .words) (r .held .clauses) 3 o os (withDeleted true) q n,

@@ -13,7 +13,8 @@ use borrow.Author.Tests.{lt-ltb}
 use Rattle.laws.specs.Fold.{foldList}
 use Rattle.laws.specs.Lists.{at}
 use Rattle.laws.proofs.Folds.{and-both}
-use Rattle.laws.proofs.Members.{In, in-head, in-tail, in-at, in-place}
+use Rattle.laws.proofs.Members.{In}
+use Rattle.laws.proofs.Entries.{elem-here, elem-later, elem-index, elem-place}
 use Rattle.laws.proofs.Pushes.{at-other}
 use Rattle.kinds.specs.Header.{deletedOf}
 use Rattle.kinds.specs.Clauses.{activityAt, deletedAt, undeleted}
@@ -46,10 +47,10 @@ scaled-fold : {v used : ℕ} {cs : List ℕ} {g : ℕ} {ts : List (List ℕ)} {p
 unfolding foldList scaledAt
 scaled-fold l s [] w S R h = (S, R, (λ x m. refl))
 scaled-fold l s (o ∷ os) w S R h =
-    let a = h o (in-head o os) in
+    let a = h o (elem-here o os) in
     let x = scaled (activityAt w o) in
     let d = raised-deleted S o (a .0) x in
-    let r = scaled-fold l s os (set w o x) (raised-store S o (a .0) (a .1) x) (raised-reasons S o (a .0) (a .1) x s R) (λ y m. let b = h y (in-tail y o os m) in (b .0, d y (b .0) ∙ b .1)) in
+    let r = scaled-fold l s os (set w o x) (raised-store S o (a .0) (a .1) x) (raised-reasons S o (a .0) (a .1) x s R) (λ y m. let b = h y (elem-later y o os m) in (b .0, d y (b .0) ∙ b .1)) in
     (r .0, r .1, (λ y m. r .2 y m ∙ d y m))
 
 module _ {v : ℕ} {w : List ℕ} {used : ℕ} {l cs : List ℕ} {g : ℕ} {ts : List (List ℕ)} {p : List ℕ} (S : Store v w used l cs g ts p) (s : Side) (R : Reasons w l s) (loud : Loud w l) where
@@ -77,12 +78,12 @@ module _ {v : ℕ} {w : List ℕ} {used : ℕ} {l cs : List ℕ} {g : ℕ} {ts :
   pub rescaled-quiet : Quiet (foldList scaledAt w left) left
   unfolding scaledAt
   rescaled-quiet x m d =
-      let r = in-place x left m in
+      let r = elem-place x left m in
       subst (λ (z : ℕ). at (foldList scaledAt w left) z ≤ limitBits) (r .2) (activity-bound _ (listed-ok left w under (r .0) (r .1)))
     where
       under : (k : ℕ) → k < length left → Under 0x7dff_ffff w (at left k)
       under k h =
-          let a = undeleted-live w l (at left k) (in-at left k h) in
+          let a = undeleted-live w l (at left k) (elem-index left k h) in
           let e = chain-in 0 used w l (S .chain) (at left k) (a .0) .1 in
           let z = S .room in
           (omega arith, loud (at left k) (a .0) (a .1))

@@ -13,9 +13,11 @@ use Rattle.laws.specs.Fold.{one, sumBelow}
 use Rattle.laws.specs.Lists.{listAt, snoc, push, joined}
 use Rattle.laws.specs.Counts.{is, count}
 use Rattle.laws.proofs.Sorting.{is-same, is-other, count-cons, count-nil}
-use Rattle.laws.proofs.Members.{In, in-head, in-tail, in-cases, sum-below-same}
+use Rattle.laws.proofs.Members.{In}
+use Rattle.laws.proofs.Sums.{sum-same, sum-add}
+use Rattle.laws.proofs.Entries.{elem-here, elem-later, elem-cases}
 use Rattle.laws.proofs.Pushes.{pushed-here, pushed-other, pushed-cases, length-push}
-use Rattle.laws.proofs.Tables.{sum-below-add, sum-below-is, length-counts, count-in, symmetric-sum, count-push, length-joined}
+use Rattle.laws.proofs.Tables.{sum-is, length-counts, count-in, symmetric-sum, count-push, length-joined}
 use Rattle.kinds.specs.Clauses.{varOf, neg}
 use Rattle.kinds.specs.Held.{isOpen}
 use Rattle.calls.specs.Adding.{pairPushed}
@@ -55,9 +57,9 @@ size-push rows t o h c = go (ℕ-discrete c t)
 
 sum-push : (rows : List (List ℕ)) (t o n : ℕ) → t < length rows → t < n → sumBelow (rowSize (push t o rows)) n ≡ sumBelow (rowSize rows) n + 1
 sum-push rows t o n h k =
-    let a = sum-below-same (rowSize (push t o rows)) (λ (c : ℕ). rowSize rows c + is c t) n (λ i q. size-push rows t o h i) in
-    let b = sum-below-add (rowSize rows) (λ (c : ℕ). is c t) n in
-    let d = sum-below-is t n k in
+    let a = sum-same (rowSize (push t o rows)) (λ (c : ℕ). rowSize rows c + is c t) n (λ i q. size-push rows t o h i) in
+    let b = sum-add (rowSize rows) (λ (c : ℕ). is c t) n in
+    let d = sum-is t n k in
     omega arith
 
 -- x is a and y is b, told by the negated x and by the negated y
@@ -125,7 +127,7 @@ pub half-whole : (v : ℕ) (rows : List (List ℕ)) → ((c x : ℕ) → c < 2 *
 half-whole v rows below apart even =
     let m : ℕ → ℕ → ℕ = λ a b. count b (listAt rows (neg a)) in
     let a = reindex (rowSize rows) v in
-    let b = sum-below-same (λ (x : ℕ). rowSize rows (neg x)) (λ (x : ℕ). sumBelow (λ (y : ℕ). count y (listAt rows (neg x))) (2 * v)) (2 * v)
+    let b = sum-same (λ (x : ℕ). rowSize rows (neg x)) (λ (x : ℕ). sumBelow (λ (y : ℕ). count y (listAt rows (neg x))) (2 * v)) (2 * v)
     (λ i h. length-counts (2 * v) (listAt rows (neg i)) (λ x j. below (neg i) x (neg-below i v h) j)) in
     let c = symmetric-sum (λ (x y : ℕ). count y (listAt rows (neg x))) (2 * v) even (λ x h. none x h (count x (listAt rows (neg x))) refl) in
     omega arith
@@ -153,8 +155,8 @@ cleaned-in a r x [] m = m
 cleaned-in a r x (b ∷ row) m = go (staysIn a r b) m (cleaned-in a r x row)
   where
     go : (t : Bool) → In x (cond t (b ∷ rowCleaned a r row) (rowCleaned a r row)) → (In x (rowCleaned a r row) → In x row) → In x (b ∷ row)
-    go true n ih = ⊎-elim (λ e. subst (λ (z : ℕ). In x (z ∷ row)) e (in-head x row)) (λ q. in-tail x b row (ih q)) (in-cases x b (rowCleaned a r row) n)
-    go false n ih = in-tail x b row (ih n)
+    go true n ih = ⊎-elim (λ e. subst (λ (z : ℕ). In x (z ∷ row)) e (elem-here x row)) (λ q. elem-later x b row (ih q)) (elem-cases x b (rowCleaned a r row) n)
+    go false n ih = elem-later x b row (ih n)
 
 cleaned-count : (a : List ℕ) (r y : ℕ) (row : List ℕ) → count y (rowCleaned a r row) ≡ cond (staysIn a r y) (count y row) 0
 unfolding rowCleaned

@@ -11,7 +11,8 @@ use lib.Dec.{eqb}
 use borrow.Author.Tests.{eqb-true, eqb-false}
 use Rattle.laws.specs.Fold.{foldList}
 use Rattle.laws.specs.Lists.{at, readN}
-use Rattle.laws.proofs.Members.{In, in-head, in-tail, in-right, Distinct}
+use Rattle.laws.proofs.Members.{In, in-right, Distinct}
+use Rattle.laws.proofs.Entries.{elem-here, elem-later}
 use Rattle.laws.proofs.Reading.{at-sets-below, at-sets-above, at-sets, length-read, read-same}
 use Rattle.kinds.specs.Header.{withDeleted}
 use Rattle.kinds.specs.Clauses.{headAt, lenAt, endAt, deletedAt, litsAt, originalAt, changeHead, varOf}
@@ -116,7 +117,7 @@ module _ (s : Side) (bare : s .trail ≡ []) where
       → (deletedAt w x ≡ false → lacking (s .values) (litsAt w x) ≡ false) → deletedAt u x ≡ false → lacking (s .values) (litsAt u x) ≡ false
   ahead w u a o os used c e x m r q =
       let other : x ≡ o → ⊥ = λ z. front a c (subst (λ (y : ℕ). In y os) z m) in
-      let f = apart-same 0 used w u (a ++ (o ∷ os)) o c (in-right o a (o ∷ os) (in-head o os)) e x (in-right x a (o ∷ os) (in-tail x o os m)) other in
+      let f = apart-same 0 used w u (a ++ (o ∷ os)) o c (in-right o a (o ∷ os) (elem-here o os)) e x (in-right x a (o ∷ os) (elem-later x o os m)) other in
       ap (lacking (s .values)) (lits-same w u x f) ∙ r (sym (deleted-same w u x f) ∙ q)
     where
       tail : (a : List ℕ) → Distinct (a ++ (o ∷ os)) → In o os → ⊥
@@ -141,13 +142,13 @@ module _ (s : Side) (bare : s .trail ≡ []) where
     l = k .clauses ++ (o ∷ os)
 
     here : In o l
-    here = in-right o (k .clauses) (o ∷ os) (in-head o os)
+    here = in-right o (k .clauses) (o ∷ os) (elem-here o os)
 
     skipped : deletedAt (k .words) o ≡ true → Walking s os k
-    skipped e = record { good = drop-good k (k .clauses) o os [] (r .good) e; host = r .host; ready = λ x m q. r .ready x (in-tail x o os m) q }
+    skipped e = record { good = drop-good k (k .clauses) o os [] (r .good) e; host = r .host; ready = λ x m q. r .ready x (elem-later x o os m) q }
 
     ready-after : (u : List ℕ) → Edit (k .words) u o → (x : ℕ) → In x os → deletedAt u x ≡ false → lacking (s .values) (litsAt u x) ≡ false
-    ready-after u e x m = ahead (k .words) u (k .clauses) o os (k .used) (r .good .store .chain) e x m (r .ready x (in-tail x o os m))
+    ready-after u e x m = ahead (k .words) u (k .clauses) o os (k .used) (r .good .store .chain) e x m (r .ready x (elem-later x o os m))
 
     module _ (live : deletedAt (k .words) o ≡ false) where
       no-reasons : (j : ℕ) → j < length (k .host .trail) → kindOf (k .host) (at (k .host .trail) j) ≡ 3 → reasonWord (k .host) (at (k .host .trail) j) ≡ o → ⊥
@@ -169,7 +170,7 @@ module _ (s : Side) (bare : s .trail ≡ []) where
         good = let d = subst (λ (z : List ℕ). Good k z []) (sym (passed-on (k .clauses) o os)) (r .good) in
             record { store = d .store; quiet = d .quiet; rows = d .rows; tuned = d .tuned; sided = d .sided; reasons = d .reasons };
         host = r .host;
-        ready = λ x m q. r .ready x (in-tail x o os m) q;
+        ready = λ x m q. r .ready x (elem-later x o os m) q;
       }
 
       module _ (quiet : anyTrue (s .values) (litsAt (k .words) o) ≡ false) where
@@ -180,7 +181,7 @@ module _ (s : Side) (bare : s .trail ≡ []) where
         vars = unfalsified-vars (k .vars) (s .values) (litsAt (k .words) o) (lits-vars (k .words) (k .vars) (o + 3) (lenAt (k .words) o) (r .good .store .clause o here live .lits))
 
         two : 2 ≤ length ls
-        two = two-left (s .values) (litsAt (k .words) o) (r .ready o (in-head o os) live) quiet
+        two = two-left (s .values) (litsAt (k .words) o) (r .ready o (elem-here o os) live) quiet
 
         most : length ls ≤ lenAt (k .words) o
         most = let a = unfalsified-most (s .values) (litsAt (k .words) o) in let b = length-read (k .words) (o + 3) (lenAt (k .words) o) in omega arith

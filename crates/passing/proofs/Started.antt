@@ -1,6 +1,6 @@
 -- An accepted start leaves a store that passes, and with a host side that passes all of it: so there is something to preserve. Assumes nothing.
 use mathlib.Core.Path.{_≡_, refl, sym, ap, _∙_, subst}
-use mathlib.Core.Bool.{true, not, _&&_}
+use mathlib.Core.Bool.{true, _&&_}
 use mathlib.Core.List.{List, [], _∷_}
 use Prim.Native.Nat.{ℕ, zero, suc, _*_, _^_}
 use native.Mathlib.Omega.{arith}
@@ -14,9 +14,10 @@ use Rattle.laws.specs.Fold.{allBelow}
 use Rattle.laws.specs.Lists.{at, listAt, takeEach}
 use Rattle.laws.specs.Counts.{count}
 use Rattle.laws.proofs.Folds.{and-both, and-left, and-right, all-of, all-at}
-use Rattle.laws.proofs.Members.{In, in-nil, sum-below-same}
+use Rattle.laws.proofs.Members.{In}
+use Rattle.laws.proofs.Sums.{sum-none}
+use Rattle.laws.proofs.Entries.{elem-none}
 use Rattle.laws.proofs.Sorting.{count-nil}
-use Rattle.laws.proofs.Tables.{sum-below-zero}
 use Rattle.kinds.specs.Clauses.{neg}
 use Rattle.kinds.specs.Floats.{unity, inverse, decayOk, inverseOk}
 use Rattle.kinds.specs.Lent.{Lent, roomOf}
@@ -27,13 +28,12 @@ use Rattle.calls.specs.Size.{varsInRange, sized, wordsSized, tierSized, tiersSi
 use Rattle.calls.specs.StorePasses.{storePasses}
 use Rattle.calls.specs.HostPasses.{hostPasses}
 use Rattle.calls.specs.Adding.{zeros, zerosEach, started}
-use Rattle.calls.specs.Refusing.{lowest}
 use Rattle.calls.specs.Outcome.{startNumber}
 use Rattle.demands.specs.Demands.{wholePasses, Typed, Kept}
 use Rattle.passing.proofs.Store.{Store}
 use Rattle.passing.proofs.Good.{rowSize, Even, Tuned, Quiet}
 use Rattle.passing.proofs.Tests.{words-test, tiers-test, rows-test, floats-test}
-use Rattle.passing.proofs.Asked.{clear, rest}
+use Rattle.calls.proofs.Given.{first-not, others-not}
 use Rattle.passing.proofs.Sizes.{sized-test}
 use Rattle.passing.proofs.Sizes as sizes
 
@@ -41,12 +41,12 @@ use Rattle.passing.proofs.Sizes as sizes
 
 module _ (v : ℕ) (d : Float) (k : Lent) (z : startNumber v d k ≡ 0) where
   sizes-given : startSizesOk v k ≡ true
-  unfolding startNumber lowest
-  sizes-given = not-false _ (clear (not (startSizesOk v k)) 1 _ (λ q. omega arith) z)
+  unfolding startNumber
+  sizes-given = not-false _ (first-not 1 _ _ (λ q. omega arith) z)
 
   decay-given : decayOk d ≡ true
-  unfolding startNumber lowest
-  decay-given = not-false _ (clear (not (decayOk d)) 12 0 (λ q. omega arith) (rest (not (startSizesOk v k)) 1 _ (λ q. omega arith) z))
+  unfolding startNumber
+  decay-given = not-false _ (first-not 12 _ _ (λ q. omega arith) (others-not 1 _ _ (λ q. omega arith) z))
 
 -- ---- empty lists
 
@@ -94,7 +94,7 @@ zeros-list (l ∷ ls) zero = zeros-long l
 zeros-list (l ∷ ls) (suc t) = zeros-list ls t
 
 none-in : (l : List ℕ) (x : ℕ) → l ≡ [] → In x l → ⊥
-none-in l x e m = in-nil x (subst (λ (y : List ℕ). In x y) e m)
+none-in l x e m = elem-none x (subst (λ (y : List ℕ). In x y) e m)
 
 -- ---- the empty store
 
@@ -106,10 +106,10 @@ module _ (v : ℕ) (d : Float) (k : Lent) (fit : T (fits binary32 d)) (four : le
   unfolding view started
   empty-store = record {
     chain = omega arith;
-    clause = λ o m. absurd (in-nil o m);
+    clause = λ o m. absurd (elem-none o m);
     counts = λ t h. zeros-at 4 t;
     garbage = omega arith;
-    covered = λ o m. absurd (in-nil o m);
+    covered = λ o m. absurd (elem-none o m);
     entry = λ t e h m. absurd (none-in (listAt (takeEach (replicate 4 0) (zerosEach (k .tiers))) t) e (no-entries 4 (zerosEach (k .tiers)) t) m);
     fourCounts = refl;
     fourLists = lists-many 4 (zerosEach (k .tiers)) (zeros-each (k .tiers) ∙ four);
@@ -130,7 +130,7 @@ module _ (v : ℕ) (d : Float) (k : Lent) (fit : T (fits binary32 d)) (four : le
         below = λ c x h m. absurd (none-in (listAt rows c) x (none c) m);
         apart = λ c x h m. absurd (none-in (listAt rows c) x (none c) m);
         even = λ x y a b. ap (count y) (none (neg x)) ∙ empty-count y x ∙ sym (ap (count x) (none (neg y)));
-        half = sym (sum-below-same (rowSize rows) (λ (c : ℕ). 0) (2 * v) (λ c h. ap length (none c)) ∙ sum-below-zero (2 * v));
+        half = sym (sum-none (rowSize rows) (2 * v) (λ c h. ap length (none c)));
       }
     where
       empty-count : (y x : ℕ) → count y [] ≡ count x []
@@ -151,7 +151,7 @@ module _ (v : ℕ) (d : Float) (k : Lent) (fit : T (fits binary32 d)) (four : le
   pub started-store : storePasses everything (view s) ≡ true
   unfolding storePasses view started
   started-store =
-      let quiet : Quiet (view s .words) [] = λ o m. absurd (in-nil o m) in
+      let quiet : Quiet (view s .words) [] = λ o m. absurd (elem-none o m) in
       and-both _ _ (words-test (view s) empty-store quiet) (and-both _ _ (tiers-test (view s) empty-store quiet) (and-both _ _ (rows-test (view s) empty-rows) (floats-test (view s) fresh-tuned)))
 
   pub started-typed : Typed s

@@ -10,7 +10,8 @@ use lib.ListN.{length}
 use lib.Dec.{eqb}
 use Rattle.laws.specs.Fold.{one}
 use Rattle.laws.specs.Lists.{at, listAt}
-use Rattle.laws.proofs.Members.{In, in-nil, in-cases, Distinct, sumList, sum-change}
+use Rattle.laws.proofs.Members.{In, Distinct, sumList, sum-change}
+use Rattle.laws.proofs.Entries.{elem-none, elem-cases}
 use Rattle.kinds.specs.Header.{markOf, glueOf, spareOf}
 use Rattle.kinds.specs.Clauses.{headAt, lenAt, sizeAt, endAt, tierAt, deletedAt, varOf}
 use Rattle.calls.proofs.Readings.{Lits}
@@ -117,8 +118,8 @@ chain-le lo hi w [] h = h
 chain-le lo hi w (o ∷ l) (h, k) = let q = chain-le _ hi w l k in omega arith
 
 pub chain-in : (lo hi : ℕ) (w l : List ℕ) → Chain lo hi w l → (x : ℕ) → In x l → (lo ≤ x) × (endAt w x ≤ hi)
-chain-in lo hi w [] h x m = absurd (in-nil x m)
-chain-in lo hi w (o ∷ l) (h, k) x m = go (chain-in (endAt w o) hi w l k x) (in-cases x o l m)
+chain-in lo hi w [] h x m = absurd (elem-none x m)
+chain-in lo hi w (o ∷ l) (h, k) x m = go (chain-in (endAt w o) hi w l k x) (elem-cases x o l m)
   where
     go : (In x l → (endAt w o ≤ x) × (endAt w x ≤ hi)) → (x ≡ o) ⊎ In x l → (lo ≤ x) × (endAt w x ≤ hi)
     go ih (inl e) = subst (λ (z : ℕ). (lo ≤ z) × (endAt w z ≤ hi)) (sym e) (h, chain-le (endAt w o) hi w l k)
@@ -129,8 +130,8 @@ chain-distinct lo hi w [] h = tt
 chain-distinct lo hi w (o ∷ l) (h, k) = ((λ m. let r = chain-in (endAt w o) hi w l k o m .0 in absurd (omega arith)), chain-distinct (endAt w o) hi w l k)
 
 pub chain-apart : (lo hi : ℕ) (w l : List ℕ) → Chain lo hi w l → (x y : ℕ) → In x l → In y l → (x ≡ y → ⊥) → (endAt w x ≤ y) ⊎ (endAt w y ≤ x)
-chain-apart lo hi w [] h x y m n d = absurd (in-nil x m)
-chain-apart lo hi w (o ∷ l) (h, k) x y m n d = go (chain-apart (endAt w o) hi w l k x y) (in-cases x o l m) (in-cases y o l n)
+chain-apart lo hi w [] h x y m n d = absurd (elem-none x m)
+chain-apart lo hi w (o ∷ l) (h, k) x y m n d = go (chain-apart (endAt w o) hi w l k x y) (elem-cases x o l m) (elem-cases y o l n)
   where
     go : (In x l → In y l → (x ≡ y → ⊥) → (endAt w x ≤ y) ⊎ (endAt w y ≤ x)) → (x ≡ o) ⊎ In x l → (y ≡ o) ⊎ In y l → (endAt w x ≤ y) ⊎ (endAt w y ≤ x)
     go ih (inl e) (inl f) = absurd (d (e ∙ sym f))
@@ -182,7 +183,7 @@ chain-edit lo hi w u o e (x ∷ l) (h, k) m = go (chain-edit (endAt w x) hi w u 
           (chain-same (endAt w o) hi w u l (λ i a b. e .behind i a) (subst (λ (y : ℕ). Chain (endAt w y) hi w l) (sym q) k))),
     )
     go ih (no q) =
-        let n : In o l = ⊎-elim (λ z. absurd (q z)) (λ z. z) (in-cases o x l m) in
+        let n : In o l = ⊎-elim (λ z. absurd (q z)) (λ z. z) (elem-cases o x l m) in
         let a = chain-in (endAt w x) hi w l k o n .0 in
         let s = end-same w u x (λ i f b. e .before i (omega arith)) in
         (h, subst (λ (y : ℕ). Chain y hi u l) (sym s) (ih n))

@@ -11,11 +11,13 @@ use lib.ListN.{length}
 use lib.Dec.{eqb, leb, ltb, T}
 use lib.Ieee.{binary32, fits}
 use borrow.Author.Tests.{leb-true, leb-false, ltb-true, eqb-true, not-true, lt-ltb, le-leb, eq-eqb, ne-eqb}
-use Rattle.laws.specs.Fold.{allBelow, anyBelow, countBelow, sumBelow, one}
+use Rattle.laws.specs.Fold.{allBelow, anyBelow, countBelow, sumBelow}
 use Rattle.laws.specs.Lists.{at, listAt, elem}
-use Rattle.laws.specs.Counts.{is, count}
+use Rattle.laws.specs.Counts.{count}
 use Rattle.laws.proofs.Folds.{and-both, and-left, and-right, or-left, or-right, all-of, any-at, any-no, any-find}
-use Rattle.laws.proofs.Members.{In, in-nil, in-at, in-place, sumList, sum-places, count-sum}
+use Rattle.laws.proofs.Members.{In, sumList, sum-places}
+use Rattle.laws.proofs.Sums.{count-sum, count-places}
+use Rattle.laws.proofs.Entries.{elem-none, elem-index, elem-place}
 use Rattle.kinds.specs.Header.{tierOf, markOf, glueOf, spareOf}
 use Rattle.kinds.specs.Clauses.{activityAt, headAt, lenAt, endAt, tierAt, deletedAt, isLive, varOf, neg}
 use Rattle.kinds.specs.Floats.{limitBits, activityOk, bumpOk, inverseOk}
@@ -63,24 +65,19 @@ words-sum : (w l : List ℕ) → sumBelow (liveSize w l) (length l) ≡ sumList 
 unfolding liveSize liveAt liveWords
 words-sum w l = sum-places (liveWords w) l
 
-pub count-list : (x : ℕ) (l : List ℕ) → sumList (λ (y : ℕ). one (eqb y x)) l ≡ count x l
-unfolding count is
-count-list x [] = refl
-count-list x (y ∷ l) = ap (λ (n : ℕ). one (eqb y x) + n) (count-list x l)
-
 times-count : (row : List ℕ) (x : ℕ) → countBelow (standsAt row x) (length row) ≡ count x row
 unfolding standsAt
-times-count row x = count-sum (standsAt row x) (length row) ∙ sum-places (λ (y : ℕ). one (eqb y x)) row ∙ count-list x row
+times-count row x = count-sum (standsAt row x) (length row) ∙ count-places x row
 
 -- ---- a place in a tier's list
 
 stands-in : (tl : List ℕ) (o : ℕ) → anyBelow (standsAt tl o) (length tl) ≡ true → In o tl
 unfolding standsAt
-stands-in tl o e = let r = any-find (standsAt tl o) (length tl) e in subst (λ (z : ℕ). In z tl) (eqb-true (at tl (r .0)) o (r .2)) (in-at tl (r .0) (r .1))
+stands-in tl o e = let r = any-find (standsAt tl o) (length tl) e in subst (λ (z : ℕ). In z tl) (eqb-true (at tl (r .0)) o (r .2)) (elem-index tl (r .0) (r .1))
 
 in-stands : (tl : List ℕ) (o : ℕ) → In o tl → anyBelow (standsAt tl o) (length tl) ≡ true
 unfolding standsAt
-in-stands tl o m = let r = in-place o tl m in any-at (standsAt tl o) (length tl) (r .0) (r .1) (eq-eqb (at tl (r .0)) o (r .2))
+in-stands tl o m = let r = elem-place o tl m in any-at (standsAt tl o) (length tl) (r .0) (r .1) (eq-eqb (at tl (r .0)) o (r .2))
 
 -- ---- the store
 
@@ -90,12 +87,12 @@ module _ (w : List ℕ) (used : ℕ) (l : List ℕ) (e : ℕ) where
   ref-live q =
       let r = any-find (refAt w l e) (length l) q in
       let s = eqb-true (at l (r .0)) e (and-right (not (deletedAt w (at l (r .0)))) _ (r .2)) in
-      (subst (λ (z : ℕ). In z l) s (in-at l (r .0) (r .1)), subst (λ (z : ℕ). deletedAt w z ≡ false) s (not-true _ (and-left _ _ (r .2))))
+      (subst (λ (z : ℕ). In z l) s (elem-index l (r .0) (r .1)), subst (λ (z : ℕ). deletedAt w z ≡ false) s (not-true _ (and-left _ _ (r .2))))
 
   live-ref : Live w l e → anyBelow (refAt w l e) (length l) ≡ true
   unfolding refAt liveAt
   live-ref (m, d) =
-      let r = in-place e l m in
+      let r = elem-place e l m in
       any-at (refAt w l e) (length l) (r .0) (r .1) (and-both _ _ (subst (λ (z : ℕ). not (deletedAt w z) ≡ true) (sym (r .2)) (not-test (deletedAt w e) d)) (eq-eqb (at l (r .0)) e (r .2)))
 
   stale-of : staleOk w used l (length l) e ≡ true → Stale w used l e
@@ -106,7 +103,7 @@ module _ (w : List ℕ) (used : ℕ) (l : List ℕ) (e : ℕ) where
         within = leb-true (e + 3) used (and-left _ _ q);
         deleted = and-left _ _ b;
         outside = λ x m d f g.
-            let r = in-place x l m in
+            let r = elem-place x l m in
             let hit : insideAt w l (e + 1) (r .0) ≡ true =
             subst (λ (z : ℕ). not (deletedAt w z) && (leb z (e + 1) && ltb (e + 1) (endAt w z)) ≡ true) (sym (r .2))
             (and-both _ _ (not-test (deletedAt w x) d) (and-both _ _ (le-leb x (e + 1) f) (lt-ltb (e + 1) (endAt w x) g))) in
@@ -119,12 +116,12 @@ module _ (w : List ℕ) (used : ℕ) (l : List ℕ) (e : ℕ) where
       and-both _ _ (le-leb (e + 3) used (s .within)) (and-both _ _ (s .deleted) (not-test _ (any-no (insideAt w l (e + 1)) (length l)
       (λ i h. no-test (insideAt w l (e + 1) i) (λ q.
       let b = and-right (not (deletedAt w (at l i))) _ q in
-      s .outside (at l i) (in-at l i h) (not-true _ (and-left _ _ q)) (leb-true (at l i) (e + 1) (and-left _ _ b)) (ltb-true (e + 1) (endAt w (at l i)) (and-right (leb (at l i) (e + 1)) _ b)))))))
+      s .outside (at l i) (elem-index l i h) (not-true _ (and-left _ _ q)) (leb-true (at l i) (e + 1) (and-left _ _ b)) (ltb-true (e + 1) (endAt w (at l i)) (and-right (leb (at l i) (e + 1)) _ b)))))))
 
 module _ (h : Held) (W : wordsPass h ≡ true) (E : tiersOk h ≡ true) where
   live-clause : (o : ℕ) → In o (h .clauses) → deletedAt (h .words) o ≡ false → LiveClause (h .words) (h .vars) o
   live-clause o m d =
-      let r = in-place o (h .clauses) m in
+      let r = elem-place o (h .clauses) m in
       subst (λ (z : ℕ). LiveClause (h .words) (h .vars) z) (r .2) (held-words h W .clause (r .0) (r .1) (subst (λ (z : ℕ). deletedAt (h .words) z ≡ false) (sym (r .2)) d))
 
   pub quiet-read : Quiet (h .words) (h .clauses)
@@ -133,7 +130,7 @@ module _ (h : Held) (W : wordsPass h ≡ true) (E : tiersOk h ≡ true) where
   covered-read : (o : ℕ) → In o (h .clauses) → deletedAt (h .words) o ≡ false → In o (listAt (h .tiers) (tierAt (h .words) o))
   unfolding liveIn liveAt
   covered-read o m d =
-      let r = in-place o (h .clauses) m in
+      let r = elem-place o (h .clauses) m in
       let t = tierAt (h .words) o in
       stands-in (listAt (h .tiers) t) o
       (subst (λ (z : ℕ). anyBelow (standsAt (listAt (h .tiers) t) z) (length (listAt (h .tiers) t)) ≡ true) (r .2)
@@ -142,7 +139,7 @@ module _ (h : Held) (W : wordsPass h ≡ true) (E : tiersOk h ≡ true) where
 
   entry-read : (t e : ℕ) → t < 4 → In e (listAt (h .tiers) t) → Live (h .words) (h .clauses) e ⊎ Stale (h .words) (h .used) (h .clauses) e
   entry-read t e k m =
-      let r = in-place e (listAt (h .tiers) t) m in
+      let r = elem-place e (listAt (h .tiers) t) m in
       subst (λ (z : ℕ). Live (h .words) (h .clauses) z ⊎ Stale (h .words) (h .used) (h .clauses) z) (r .2)
       (⊎-elim (λ q. inl (ref-live (h .words) (h .used) (h .clauses) _ q)) (λ q. inr (stale-of (h .words) (h .used) (h .clauses) _ q)) (held-tier h E t k .entry (r .0) (r .1)))
 
@@ -186,8 +183,8 @@ module _ (h : Held) (S : Store (h .vars) (h .words) (h .used) (h .clauses) (h .c
       let l = h .clauses in
       and-both _ _
       (all-of (placedAt w (h .used) l (length l)) (length l)
-      (λ i k. and-both _ _ (le-leb (endAt w (at l i)) (h .used) (chain-in 0 (h .used) w l (S .chain) (at l i) (in-at l i k) .1)) (next i (leb (length l) (i + 1)) refl)))
-      (and-both _ _ (all-of (clauseOkAt w (h .vars) l) (length l) (λ i k. unless-test (liveAt w l i) _ (λ q. clause-test (at l i) (in-at l i k) (not-true _ q))))
+      (λ i k. and-both _ _ (le-leb (endAt w (at l i)) (h .used) (chain-in 0 (h .used) w l (S .chain) (at l i) (elem-index l i k) .1)) (next i (leb (length l) (i + 1)) refl)))
+      (and-both _ _ (all-of (clauseOkAt w (h .vars) l) (length l) (λ i k. unless-test (liveAt w l i) _ (λ q. clause-test (at l i) (elem-index l i k) (not-true _ q))))
       (and-both _ _ (all-of (countOk w l (length l) (h .counts)) 4 (λ t k. eq-eqb _ _ (S .counts t k ∙ sym (tier-sum w l t))))
       (le-leb _ (h .used) (let a = S .garbage in let b = words-sum w l in omega arith))))
     where
@@ -209,13 +206,13 @@ module _ (h : Held) (S : Store (h .vars) (h .words) (h .used) (h .clauses) (h .c
       let here = eqb-true (tierAt w (at l i)) t (and-right (not (deletedAt w (at l i))) _ q) in
       ⊎-elim
       (λ r. in-stands tl (at l i) (subst (λ (z : ℕ). In (at l i) (listAt (h .tiers) z)) here r))
-      (λ r. absurd (in-nil (at l i) r))
-      (S .covered (at l i) (in-at l i n) (not-true _ (and-left _ _ q))))))
+      (λ r. absurd (elem-none (at l i) r))
+      (S .covered (at l i) (elem-index l i n) (not-true _ (and-left _ _ q))))))
       (all-of (entryOk w (h .used) l (length l) tl) (length tl) (λ q n.
       ⊎-elim
       (λ r. or-left _ _ (live-ref w (h .used) l (at tl q) r))
       (λ r. or-right (anyBelow (refAt w l (at tl q)) (length l)) _ (of-stale w (h .used) l (at tl q) r))
-      (S .entry t (at tl q) k (in-at tl q n)))))
+      (S .entry t (at tl q) k (elem-index tl q n)))))
 
 -- ---- the rows
 
@@ -225,8 +222,8 @@ rows-of h e long =
     let r = rows-read h e in
     record {
       long = long;
-      below = λ c x k m. let i = in-place x (listAt (h .rows) c) m in subst (λ (z : ℕ). z < 2 * h .vars) (i .2) (r .below c (i .0) k (i .1));
-      apart = λ c x k m q. let i = in-place x (listAt (h .rows) c) m in r .apart c (i .0) k (i .1) (ap varOf (i .2) ∙ q);
+      below = λ c x k m. let i = elem-place x (listAt (h .rows) c) m in subst (λ (z : ℕ). z < 2 * h .vars) (i .2) (r .below c (i .0) k (i .1));
+      apart = λ c x k m q. let i = elem-place x (listAt (h .rows) c) m in r .apart c (i .0) k (i .1) (ap varOf (i .2) ∙ q);
       even = λ x y a b. sym (times-count (listAt (h .rows) (neg x)) y) ∙ r .even x y a b ∙ times-count (listAt (h .rows) (neg y)) x;
       half = r .half;
     }
@@ -236,7 +233,7 @@ unfolding rowsPass rowsInRange rowInRange rowEntryOk rowsSymmetric symmetricWith
 rows-test h r =
     and-both _ _
     (all-of (rowInRange h) (2 * h .vars) (λ c k. all-of (rowEntryOk h c) (length (listAt (h .rows) c)) (λ q n.
-    let m = in-at (listAt (h .rows) c) q n in
+    let m = elem-index (listAt (h .rows) c) q n in
     and-both _ _ (lt-ltb _ _ (r .below c _ k m)) (not-test _ (ne-eqb _ _ (r .apart c _ k m))))))
     (and-both _ _
     (all-of (symmetricWith h) (2 * h .vars) (λ x a. all-of (symmetricAt h x) (2 * h .vars) (λ y b.

@@ -13,7 +13,8 @@ use borrow.Author.Tests.{eqb-true}
 use Rattle.laws.specs.Fold.{foldList}
 use Rattle.laws.specs.Lists.{at}
 use Rattle.laws.proofs.Folds.{any-find}
-use Rattle.laws.proofs.Members.{In, in-nil, in-cases, in-at}
+use Rattle.laws.proofs.Members.{In}
+use Rattle.laws.proofs.Entries.{elem-none, elem-cases, elem-index}
 use Rattle.laws.proofs.Pushes.{at-other, at-same}
 use Rattle.kinds.specs.Clauses.{varOf}
 use Rattle.kinds.specs.Lines.{line}
@@ -104,8 +105,8 @@ module _ (v : ℕ) (s : Side) where
 
   become-four : (ls : List ℕ) (k : Held) (l : ℕ) → Removing v s k → In l ls → varOf l < v → at (foldList unitDone k ls .host .kinds) (varOf l) ≡ 4
   unfolding foldList
-  become-four [] k l r m h = absurd (in-nil l m)
-  become-four (y ∷ ls) k l r m h = go (become-four ls (unitDone k y) l (unit-removing k y r)) (in-cases l y ls m)
+  become-four [] k l r m h = absurd (elem-none l m)
+  become-four (y ∷ ls) k l r m h = go (become-four ls (unitDone k y) l (unit-removing k y r)) (elem-cases l y ls m)
     where
       go : (In l ls → varOf l < v → at (foldList unitDone (unitDone k y) ls .host .kinds) (varOf l) ≡ 4) → (l ≡ y) ⊎ In l ls → at (foldList unitDone (unitDone k y) ls .host .kinds) (varOf l) ≡ 4
       go ih (inl e) = kept-four ls (unitDone k y) (varOf l)
@@ -135,7 +136,7 @@ emptied-side v s t h vals lev none kinds four =
     on x k q =
         let r = any-find (variableAt s x) (length (s .trail)) q in
         let e : varOf (at (s .trail) (r .0)) ≡ x = eqb-true (varOf (at (s .trail) (r .0))) x (r .2) in
-        subst (λ (z : ℕ). at (t .kinds) z ≡ 4) e (four (at (s .trail) (r .0)) (in-at (s .trail) (r .0) (r .1)) (subst (λ (z : ℕ). z < v) (sym e) k))
+        subst (λ (z : ℕ). at (t .kinds) z ≡ 4) e (four (at (s .trail) (r .0)) (elem-index (s .trail) (r .0) (r .1)) (subst (λ (z : ℕ). z < v) (sym e) k))
 
 pub units-good : (h : Held) → Whole h [] → Whole (unitsProved h) []
 unfolding unitsProved trailEmptied
