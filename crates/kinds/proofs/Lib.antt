@@ -4,3 +4,5 @@ pub mod RowLayout
 pub mod TierLayout
 pub mod FloatOrder
 pub mod FloatMeaning
+pub mod FloatOps
+pub mod FloatRanges

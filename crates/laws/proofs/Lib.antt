@@ -3,6 +3,10 @@ pub mod Fills
 pub mod Folds
 pub mod Reading
 pub mod Sorting
+pub mod Members
+pub mod Pushes
+pub mod Tables
+pub mod Distinct
 pub mod Writing
 pub mod Entries
 pub mod Sums
