@@ -14,7 +14,7 @@ use Rattle.laws.specs.Counts.{is, count}
 use Rattle.laws.proofs.Sorting.{is-same, is-other, count-cons, count-nil, count-append}
 use Rattle.laws.proofs.Members.{In}
 use Rattle.laws.proofs.Entries.{elem-here, elem-later}
-use Rattle.laws.proofs.Sums.{sum-same, sum-none, sum-add, sum-first, sum-single}
+use Rattle.laws.proofs.Sums.{sum-same, sum-zeros, sum-add, sum-first, sum-single}
 use Rattle.laws.proofs.Pushes.{pushed-here, pushed-other}
 
 -- one place counts 1
@@ -30,7 +30,7 @@ is-swap x y = go (ℕ-discrete x y)
 
 -- a list's length is the sum of its counts
 pub length-counts : (n : ℕ) (l : List ℕ) → ((x : ℕ) → In x l → x < n) → length l ≡ sumBelow (λ (x : ℕ). count x l) n
-length-counts n [] h = sym (sum-none (λ (x : ℕ). count x []) n (λ i k. count-nil i))
+length-counts n [] h = sym (sum-zeros (λ (x : ℕ). count x []) n (λ i k. count-nil i))
 length-counts n (y ∷ l) h =
     let ih = length-counts n l (λ x m. h x (elem-later x y l m)) in
     let a = sum-same (λ (x : ℕ). count x (y ∷ l)) (λ (x : ℕ). is x y + count x l) n (λ i k. count-cons i y l ∙ ap (λ (z : ℕ). z + count i l) (is-swap y i)) in

@@ -15,7 +15,7 @@ use Rattle.laws.specs.Lists.{at, listAt, takeEach}
 use Rattle.laws.specs.Counts.{count}
 use Rattle.laws.proofs.Folds.{and-both, and-left, and-right, all-of, all-at}
 use Rattle.laws.proofs.Members.{In}
-use Rattle.laws.proofs.Sums.{sum-none}
+use Rattle.laws.proofs.Sums.{sum-zeros}
 use Rattle.laws.proofs.Entries.{elem-none}
 use Rattle.laws.proofs.Sorting.{count-nil}
 use Rattle.kinds.specs.Clauses.{neg}
@@ -130,7 +130,7 @@ module _ (v : ℕ) (d : Float) (k : Lent) (fit : T (fits binary32 d)) (four : le
         below = λ c x h m. absurd (none-in (listAt rows c) x (none c) m);
         apart = λ c x h m. absurd (none-in (listAt rows c) x (none c) m);
         even = λ x y a b. ap (count y) (none (neg x)) ∙ empty-count y x ∙ sym (ap (count x) (none (neg y)));
-        half = sym (sum-none (rowSize rows) (2 * v) (λ c h. ap length (none c)));
+        half = sym (sum-zeros (rowSize rows) (2 * v) (λ c h. ap length (none c)));
       }
     where
       empty-count : (y x : ℕ) → count y [] ≡ count x []
