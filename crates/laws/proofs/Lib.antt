@@ -1,4 +1,5 @@
 pub mod Choices
+pub mod Filling
 pub mod Folds
 pub mod Reading
 pub mod Sorting
