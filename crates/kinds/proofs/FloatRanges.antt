@@ -110,11 +110,11 @@ order-is-bits x y F G a b =
 
 -- ---- the tests of specs/Floats.antt, as bounds
 
-activity-bound : (w : ℕ) → activityOk w ≡ true → w ≤ limitBits
+pub activity-bound : (w : ℕ) → activityOk w ≡ true → w ≤ limitBits
 unfolding activityOk
 activity-bound w e = leb-true w limitBits e
 
-bound-activity : (w : ℕ) → w ≤ limitBits → activityOk w ≡ true
+pub bound-activity : (w : ℕ) → w ≤ limitBits → activityOk w ≡ true
 unfolding activityOk
 bound-activity w h = le-leb w limitBits h
 
