@@ -2,13 +2,16 @@
 use mathlib.Core.Path.{_≡_, refl, sym, ap, _∙_}
 use mathlib.Core.List.{List, [], _∷_, _++_, append-nil}
 use mathlib.Core.Bool.{Bool, true, false, cond}
-use Prim.Native.Nat.{ℕ, suc, _+_, _≤_, _<_}
+use Prim.Native.Nat.{ℕ, suc, _+_, _-_, _≤_, _<_}
 use native.Mathlib.Nat.{add-zero}
 use native.Mathlib.Numerals.{add-one}
-use lib.ListN.{length, set, take, drop}
-use lib.Seq.{take-suc, getD-drop, drop-drop, take-suc-set}
-use Rattle.laws.specs.Lists.{at}
+use native.Mathlib.Omega.{arith}
+use lib.ListN.{length, set, take, drop, replicate}
+use lib.Seq.{take-suc, getD-drop, drop-drop, take-suc-set, sets, length-take-le}
+use Rattle.laws.specs.Lists.{at, fill}
+use Rattle.laws.proofs.Filling.{fill-cleared}
 use Rattle.kinds.specs.Clauses.{deletedAt, undeleted}
+use Rattle.activity.specs.Stored.{Moved}
 
 -- none more, or one
 abbrev last : Bool → ℕ → List ℕ
@@ -45,3 +48,12 @@ module _ (ws l m : List ℕ) (i n : ℕ) (h : i < length m) (t : take n l ≡ un
   entry-kept g d =
       ap (λ (k : ℕ). take k (set l n (at m i))) (add-one n) ∙ take-suc-set l n (at m i) g
       ∙ ap (λ (r : List ℕ). r ++ (at m i ∷ [])) t ∙ ap (λ (b : Bool). undeleted ws (take i m) ++ last b (at m i)) (sym d) ∙ sym next
+
+-- the entries that stay were moved to the front, and what they gave up was cleared
+pub dropped : (ws before after end : List ℕ) (n r : ℕ) → n ≤ length before → length after ≡ length before → Moved ws before after n r → end ≡ sets after r (replicate (n - r) 0)
+    → (end ≡ fill before n (undeleted ws (take n before))) × (r ≡ length (undeleted ws (take n before)))
+dropped ws before after end n r h k m e =
+    let f = m .fewer in (
+      e ∙ fill-cleared before after n r f (omega arith) (m .behind) ∙ ap (fill before n) (m .front),
+      sym (length-take-le r after (omega arith)) ∙ ap length (m .front),
+    )

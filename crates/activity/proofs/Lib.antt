@@ -1,2 +1,4 @@
 pub mod Keeping
 pub mod Deciding
+pub mod Scaling
+pub mod Ways
