@@ -2,3 +2,5 @@ pub mod Keeping
 pub mod Deciding
 pub mod Scaling
 pub mod Ways
+pub mod Whole
+pub mod Ready

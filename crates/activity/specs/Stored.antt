@@ -16,9 +16,13 @@ pub record Stored : Type 0 where
   pub listed : ℕ
   pub activity : ClauseActivity
 
--- a store of these parts alone: n entries of the clause list are used
+-- a store of these parts alone
+abbrev pub alone : List ℕ → List ℕ → ClauseActivity → Held
+alone words list a = heldOf 0 words 0 list [] [] [] [] 0 0 a (record { values = []; kinds = []; reasons = []; levels = []; trail = []; level = 0 })
+
+-- the same out of the buffers: n entries of the clause list are used
 abbrev pub holding : List ℕ → List ℕ → ℕ → ClauseActivity → Held
-holding words clauses n a = heldOf 0 words 0 (take n clauses) [] [] [] [] 0 0 a (record { values = []; kinds = []; reasons = []; levels = []; trail = []; level = 0 })
+holding words clauses n a = alone words (take n clauses) a
 
 -- these parts of a store h, laid into the buffers: the clause list's, of which n entries were used
 abbrev pub stored : List ℕ → ℕ → Held → Stored
