@@ -4,3 +4,4 @@ pub mod Scaling
 pub mod Ways
 pub mod Whole
 pub mod Ready
+pub mod Ranges
