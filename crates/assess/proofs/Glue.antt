@@ -13,7 +13,9 @@ use borrow.Author.Tests.{eq-eqb, ne-eqb, le-leb, lt-leb}
 use Rattle.laws.specs.Fold.{allBelow, one, countBelow}
 use Rattle.laws.specs.Lists.{at}
 use Rattle.laws.proofs.Folds.{and-fails-left, and-fails-right, count-more}
-use Rattle.calls.specs.Bumping.{levelOf, levelApart, levelNew, glueFor, tierFor}
+use Rattle.calls.specs.Bumping.{levelOf, levelApart, levelNew, glueFor, tierFor, learnedGlue}
+use Rattle.calls.specs.Outcome.{Answer, assessed}
+use Rattle.kinds.specs.Header.{saturated}
 
 module _ (levels lits : List ℕ) where
   -- the level of literal k is not x
@@ -112,3 +114,9 @@ mid g h k = rw (lt-leb g 2 h, le-leb g 6 k)
 pub local : (g : ℕ) → 2 < g → 6 < g → 3 ≡ tierFor g
 unfolding tierFor
 local g h k = rw (lt-leb g 2 h, lt-leb g 6 k)
+
+-- "A learned clause gets glue minus 1"
+pub assessed-as : (levels lits : List ℕ) (g t b : ℕ) → g ≡ glueFor levels lits → t ≡ tierFor (g - 1) → b ≡ saturated (g - 1)
+    → assessed t b ≡ assessed (tierFor (learnedGlue levels lits)) (saturated (learnedGlue levels lits))
+unfolding learnedGlue
+assessed-as levels lits g t b e f h = ap₂ assessed (f ∙ ap (λ (x : ℕ). tierFor (x - 1)) e) (h ∙ ap (λ (x : ℕ). saturated (x - 1)) e)

@@ -12,8 +12,6 @@ use Rattle.calls.specs.Bumping.{levelOf, levelNew, glueFor}
 use Rattle.assess.proofs.Glue.{Marked, marked-none, marked-new, counted-new, marked-old, counted-old}
 use Rattle.assess.proofs.compute_glue.Statement.{statement}
 use Rattle.assess.proofs.compute_glue.Tie as tie
-use Rattle.assess.proofs.compute_glue.Reads as reads
-use Rattle.assess.proofs.compute_glue.Lts as lts
 
 abbrev Inv-loop : tie.InvT-loop
 Inv-loop levels lits seen₀ glue₀ i₀ seen glue i = (i ≤ length lits) × (glue ≤ i) × Marked levels lits seen i × (glue ≡ countBelow (levelNew levels lits) i)

@@ -4,8 +4,6 @@ use borrow.Author.Needs.{needs}
 use Rattle.assess.proofs.Glue.{core, mid, local}
 use Rattle.assess.proofs.select_tier.Statement.{statement}
 use Rattle.assess.proofs.select_tier.Tie as tie
-use Rattle.assess.proofs.select_tier.Reads as reads
-use Rattle.assess.proofs.select_tier.Lts as lts
 
 returns : tie.Need-returns
 returns c = core _ (c .if1 .taken)
