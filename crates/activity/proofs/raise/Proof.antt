@@ -1,7 +1,7 @@
-use mathlib.Core.Path.{refl}
+use mathlib.Core.Path.{refl, ap}
 use native.Mathlib.Nat.{lt-of-le-of-lt}
 use lib.Dec.{T, lit<}
-use lib.Ieee.{binary32, fits, ofBits}
+use lib.Ieee.{Float, binary32, fits, lt, ofBits}
 use lib.Ieee.Fits.{add-fits}
 use borrow.Author.Needs.{needs}
 use Rattle.laws.specs.Lists.{at}
@@ -41,7 +41,10 @@ same-length : tie.Need-same-length
 same-length c = search needs
 
 returns : tie.Need-returns
-returns c = (refl, cc)
+returns c =
+    let s = c .before .before .before in
+    let sum = bumpSum (at (s .args .words .now) (s .args .offset)) (s .args .bump) in
+    (refl, ap (λ (l : Float). lt l sum) (c .rescale-limit .ensures))
 
 pub raise-spec : {M : Type 1} → statement M
 raise-spec =
