@@ -5,3 +5,4 @@ pub mod Ways
 pub mod Whole
 pub mod Ready
 pub mod Ranges
+pub mod Determined

@@ -1,11 +1,13 @@
 -- Every listed live activity and the bump stay in document 01's ranges through rescale, bump and decay: "an activity from +0 to the rescale limit (not -0)", "Bump is +0 or more (not -0) and below
 -- the limit". So they stay finite. Assumes nothing.
-use mathlib.Core.Path.{_≡_, refl, sym, ap, _∙_, subst}
+use mathlib.Core.Path.{_≡_, refl, sym, subst}
 use mathlib.Core.Bool.{Bool, true, false, cond}
 use mathlib.Core.List.{List}
 use Prim.Native.Nat.{ℕ, _+_, _≤_, _<_}
 use native.Mathlib.Omega.{arith}
-use lib.Dec.{T}
+use lib.Dec.{T, lit≤}
+use lib.Ieee.Fits.{mul-fits}
+use native.Mathlib.Nat.{le-trans, le-of-lt}
 use lib.ListN.{length, set, take}
 use lib.Seq.{getD-take, length-take-le, getD-set-other}
 use lib.Ieee.{binary32, mul, lt, le, fits, toBits}
@@ -14,7 +16,7 @@ use Rattle.kinds.specs.Clauses.{activityAt, headAt, deletedAt, undeleted}
 use Rattle.kinds.specs.Floats.{limit, limitBits, bumpSum, activityOk, bumpOk, inverseOk}
 use Rattle.kinds.specs.Held.{Held}
 use Rattle.kinds.specs.declared.ClauseActivity.{ClauseActivity}
-use Rattle.kinds.proofs.FloatRanges.{activity-bound, bound-activity, sum-range, sum-kept, bump-scaled, grown-kept, grown-scaled, under-set, listed-ok}
+use Rattle.kinds.proofs.FloatRanges.{activity-bound, bound-activity, sum-range, sum-kept, bump-bound, rescaled-range, grown-range, grown-kept, under-set, listed-ok}
 use Rattle.calls.specs.Bumping.{scaledAt, rescaled, activityRaised, activityBumped, bumpGrown, decayed}
 use Rattle.activity.specs.Stored.{holding, Bounded, twiceLimit, Away}
 use Rattle.activity.proofs.Scaling.{live-loud, looser, raised-bounded}
@@ -39,9 +41,9 @@ judged ws clauses n a b e =
       bump = e;
     }
 
-pub rescale-keeps : (ws clauses : List ℕ) (n : ℕ) (a : ClauseActivity) → Bounded twiceLimit ws clauses n → bumpOk (rescaled (holding ws clauses n a) .activity .bump) ≡ true → InRange (rescaled (holding ws clauses n a))
+pub rescale-keeps : (ws clauses : List ℕ) (n : ℕ) (a : ClauseActivity) → T (fits binary32 (a .bump)) → toBits binary32 (a .bump) ≤ 0x7f7f_fffd → Bounded twiceLimit ws clauses n → InRange (rescaled (holding ws clauses n a))
 unfolding rescaled scaledAt
-rescale-keeps ws clauses n a b e = record { activities = λ k h d. listed-ok (undeleted ws (take n clauses)) ws (live-loud ws clauses n b) k h; bump = e }
+rescale-keeps ws clauses n a F h b = record { activities = λ k h d. listed-ok (undeleted ws (take n clauses)) ws (live-loud ws clauses n b) k h; bump = rescaled-range (a .bump) F h }
 
 module _ (ws clauses : List ℕ) (n : ℕ) (a : ClauseActivity) (F : T (fits binary32 (a .bump))) (b : Bounded limitBits ws clauses n) (B : bumpOk (a .bump) ≡ true) where
   -- ---- bump
@@ -70,24 +72,17 @@ module _ (ws clauses : List ℕ) (n : ℕ) (a : ClauseActivity) (F : T (fits bin
     unfolding activityBumped sum
     bump-keeps =
         chosen (lt limit (bumpSum (at ws o) (a .bump))) (rescaled (activityRaised o (holding ws clauses n a))) (activityRaised o (holding ws clauses n a))
-        (λ e. rescale-keeps (set ws o sum) clauses n a (raised-bounded ws clauses n o sum (sum-range (at ws o) (a .bump) F own B) away b) scaled-bump)
+        (λ e. rescale-keeps (set ws o sum) clauses n a F (le-trans (le-of-lt (bump-bound (a .bump) B)) (lit≤ tt)) (raised-bounded ws clauses n o sum (sum-range (at ws o) (a .bump) F own B) away b))
         raised-keeps
-      where
-        scaled-bump : bumpOk (rescaled (holding (set ws o sum) clauses n a) .activity .bump) ≡ true
-        scaled-bump = unfold rescaled in bump-scaled (a .bump) F B
 
   -- ---- decay
 
   module _ (G : T (fits binary32 (a .«inv_decay»))) (I : inverseOk (a .«inv_decay») ≡ true) where
-    grown-bump : bumpOk (rescaled (bumpGrown (holding ws clauses n a)) .activity .bump) ≡ true
-    unfolding rescaled
-    grown-bump = grown-scaled (a .bump) (a .«inv_decay») F G B I
-
     pub decay-keeps : InRange (decayed (holding ws clauses n a)) × (inverseOk (decayed (holding ws clauses n a) .activity .«inv_decay») ≡ true)
     unfolding decayed rescaled
     decay-keeps = (
       chosen (le limit (mul binary32 (a .bump) (a .«inv_decay»))) (rescaled (bumpGrown (holding ws clauses n a))) (bumpGrown (holding ws clauses n a))
-          (λ e. rescale-keeps ws clauses n (bumpGrown (holding ws clauses n a) .activity) (looser ws clauses n b) grown-bump)
+          (λ e. rescale-keeps ws clauses n (bumpGrown (holding ws clauses n a) .activity) (mul-fits binary32 (a .bump) (a .«inv_decay»)) (grown-range (a .bump) (a .«inv_decay») F G B I) (looser ws clauses n b))
           (λ e. judged ws clauses n (bumpGrown (holding ws clauses n a) .activity) b (grown-kept (a .bump) (a .«inv_decay») F G B I e)),
       same (le limit (mul binary32 (a .bump) (a .«inv_decay»))),
     )

@@ -1,17 +1,14 @@
 -- What a judged call holds is what bump, decay and rescale require: 1 and 2 passed, and the reference is a live clause (6). Assumes nothing.
 use mathlib.Core.Path.{_≡_, refl, sym, ap, _∙_, subst}
-use mathlib.Core.Bool.{Bool, true, false, not, _&&_, _||_, true≢false}
-use mathlib.Core.Logic.{⊎-elim}
+use mathlib.Core.Bool.{Bool, true, false, _||_, true≢false}
 use mathlib.Core.List.{List, [], _∷_}
 use Prim.Native.Nat.{ℕ, zero, suc, _+_, _≤_, _<_, _^_}
-use native.Mathlib.Nat.{eq-or-lt-of-le}
 use native.Mathlib.Decide.{ℕ-discrete, decLe}
 use native.Mathlib.Omega.{arith}
 use lib.ListN.{length, take}
 use lib.Seq.{getD-take, length-take-le}
 use lib.Dec.{eqb, leb}
 use borrow.Author.Tests.{leb-true, eqb-true, not-true}
-use Rattle.laws.specs.Fold.{allBelow}
 use Rattle.laws.specs.Lists.{at, listAt, elem}
 use Rattle.laws.proofs.Folds.{and-left, and-right, all-at}
 use Rattle.laws.proofs.Filling.{Within}
@@ -23,7 +20,7 @@ use Rattle.kinds.proofs.FloatRanges.{bound-activity}
 use Rattle.calls.specs.Size.{sized, varsInRange, wordsSized, tierSized, tiersSized, sizesOk}
 use Rattle.calls.specs.StorePasses.{placed, wordsPass, floatsPass, storePasses}
 use Rattle.calls.proofs.Readings.{Words, lent-test, words-pass, floats-pass, held-words, rising-read}
-use Rattle.activity.specs.Stored.{Placed, Bounded, Away}
+use Rattle.activity.specs.Stored.{Bounded, Away}
 
 -- where an entry stands
 entry-at : (x : ℕ) (l : List ℕ) → elem x l ≡ true → (i : ℕ) × (i < length l) × (at l i ≡ x)

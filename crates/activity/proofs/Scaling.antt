@@ -1,5 +1,5 @@
 -- Rescaling: one listed activity at a time, and the activities that may be rescaled. Assumes nothing.
-use mathlib.Core.Path.{_≡_, refl, sym, ap, _∙_, subst}
+use mathlib.Core.Path.{_≡_, refl, sym, subst}
 use mathlib.Core.List.{List, [], _∷_}
 use mathlib.Core.Bool.{Bool, true, false, cond}
 use Prim.Native.Nat.{ℕ, zero, suc, _+_, _≤_, _<_, suc-le-suc}
@@ -15,7 +15,7 @@ use Rattle.kinds.specs.Clauses.{deletedAt, headAt, undeleted}
 use Rattle.kinds.specs.Floats.{scaled, limitBits}
 use Rattle.kinds.proofs.FloatRanges.{under-set}
 use Rattle.calls.specs.Bumping.{scaledAt}
-use Rattle.activity.specs.Stored.{Placed, Bounded, twiceLimit, AllLoud, Away}
+use Rattle.activity.specs.Stored.{Bounded, twiceLimit, AllLoud, Away}
 
 -- one turn takes one entry off the list
 pub one-turn : (ws list : List ℕ) (i : ℕ) → i < length list → foldList scaledAt ws (drop i list) ≡ foldList scaledAt (set ws (at list i) (scaled (at ws (at list i)))) (drop (i + 1) list)

@@ -1,5 +1,5 @@
 -- What bump, decay and rescale leave: one law for each `return`. Assumes nothing.
-use mathlib.Core.Path.{_≡_, refl, sym, ap, _∙_}
+use mathlib.Core.Path.{_≡_, sym, ap, _∙_}
 use mathlib.Core.Bool.{Bool, true, false, cond}
 use mathlib.Core.List.{List}
 use Prim.Native.Nat.{ℕ, _≤_}
@@ -12,7 +12,6 @@ use Rattle.laws.proofs.Filling.{fill-same}
 use Rattle.kinds.specs.Clauses.{undeleted}
 use Rattle.kinds.specs.Floats.{limit, factor, bumpSum}
 use Rattle.kinds.specs.Setters.{activityOf}
-use Rattle.kinds.specs.Held.{Held}
 use Rattle.kinds.specs.declared.ClauseActivity.{ClauseActivity}
 use Rattle.calls.specs.Bumping.{scaledAt, rescaled, activityRaised, activityBumped, bumpGrown, decayed}
 use Rattle.activity.specs.Stored.{Stored, holding, stored}
@@ -25,9 +24,6 @@ kept-list : (ws clauses : List ℕ) (n : ℕ) (a : ClauseActivity) → n ≤ len
 kept-list ws clauses n a h = λ i. record { words = ws; clauses = sym (fill-same clauses n h) i; listed = sym (length-take-le n clauses h) i; activity = a }
 
 module _ (ws clauses : List ℕ) (n : ℕ) (a : ClauseActivity) where
-  live : List ℕ
-  live = undeleted ws (take n clauses)
-
   pub rescale-way : (v : List ℕ) (c : List ℕ) (r : ℕ) (b : Float) → c ≡ fill clauses n (undeleted ws (take n clauses)) → r ≡ length (undeleted ws (take n clauses))
       → v ≡ foldList scaledAt ws (undeleted ws (take n clauses)) → b ≡ mul binary32 (a .bump) factor
       → record { words = v; clauses = c; listed = r; activity = activityOf b (a .«inv_decay») } ≡ stored clauses n (rescaled (holding ws clauses n a))
@@ -35,9 +31,6 @@ module _ (ws clauses : List ℕ) (n : ℕ) (a : ClauseActivity) where
   rescale-way v c r b p q s t = λ i. record { words = s i; clauses = p i; listed = q i; activity = activityOf (t i) (a .«inv_decay») }
 
   module _ (o : ℕ) where
-    sum : Float
-    sum = bumpSum (at ws o) (a .bump)
-
     bump-chosen : (b : Bool) → lt limit (bumpSum (at ws o) (a .bump)) ≡ b
         → stored clauses n (activityBumped o (holding ws clauses n a)) ≡ stored clauses n (cond b (rescaled (activityRaised o (holding ws clauses n a))) (activityRaised o (holding ws clauses n a)))
     unfolding activityBumped

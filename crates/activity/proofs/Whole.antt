@@ -1,12 +1,12 @@
 -- From the parts to the whole: what bump, decay and rescale do to a store is what they do to words, clause list and activity alone, the rest as it was. A caller that holds the buffers after
 -- one of these functions reads off the store they hold (`view-..`), and what the call leaves (`laid-..`). Assumes nothing.
-use mathlib.Core.Path.{_≡_, refl, sym, ap, ap₂, _∙_}
+use mathlib.Core.Path.{_≡_, refl, sym, ap, _∙_}
 use mathlib.Core.Bool.{Bool, true, false, cond}
 use mathlib.Core.List.{List}
 use Prim.Native.Nat.{ℕ}
-use lib.ListN.{length, take}
+use lib.ListN.{length}
 use lib.Ieee.{lt, le}
-use Rattle.laws.specs.Lists.{lengths, takeEach, fill, fillEach}
+use Rattle.laws.specs.Lists.{fill, fillEach}
 use Rattle.laws.proofs.Filling.{take-fill, fill-again, Within, fill-each-same, lengths-taken}
 use Rattle.kinds.specs.Floats.{limit}
 use Rattle.kinds.specs.Setters.{stateOf, withListed, withClauseActivity}

@@ -1,12 +1,12 @@
 -- What bump, decay and rescale change of a store: the words, the clause list with its used length, bump and inverse decay.
 use mathlib.Core.Path.{_≡_}
-use mathlib.Core.Bool.{true, false}
+use mathlib.Core.Bool.{false}
 use mathlib.Core.List.{List, []}
 use Prim.Native.Nat.{ℕ, _+_, _≤_, _<_}
 use lib.ListN.{length, take, drop}
 use Rattle.laws.specs.Lists.{at, fill}
 use Rattle.kinds.specs.Clauses.{activityAt, deletedAt, undeleted}
-use Rattle.kinds.specs.Held.{Held, Side, heldOf}
+use Rattle.kinds.specs.Held.{Held, heldOf}
 use Rattle.kinds.specs.declared.ClauseActivity.{ClauseActivity}
 
 pub record Stored : Type 0 where

@@ -1,19 +1,19 @@
 // Clause activities: bump, decay, rescale, and setting the decay.
 ghost use mathlib.Core.Path.{_≡_};
 ghost use mathlib.Core.Bool.{true};
-ghost use Prim.Native.Nat.{ℕ, _+_, _≤_, _<_};
+ghost use Prim.Native.Nat.{_+_, _<_};
 ghost use lib.ListN.{length, set, take};
 ghost use lib.Ieee.{binary32, lt, toBits};
 ghost use Rattle.laws.specs.Fold.{foldList};
 ghost use Rattle.laws.specs.Lists.{at, fill};
 ghost use Rattle.kinds.specs.Clauses.{undeleted};
-ghost use Rattle.kinds.specs.Floats.{limit, limitBits, factor, bumpSum, activityOk, bumpOk, inverseOk, decayOk};
+ghost use Rattle.kinds.specs.Floats.{limit, limitBits, factor, bumpSum, activityOk, bumpOk, decayOk};
 ghost use Rattle.kinds.specs.Lent.{lentActivity};
 ghost use Rattle.calls.specs.Bumping.{scaledAt, rescaled, activityBumped, decayed};
-ghost use Rattle.calls.specs.Call.{Command, setDecay};
+ghost use Rattle.calls.specs.Call.{setDecay};
 ghost use Rattle.calls.specs.Outcome.{done, nothing};
 ghost use Rattle.calls.specs.Answers.{plainNumber};
-ghost use Rattle.activity.specs.Stored.{Stored, holding, stored, Placed, Bounded, twiceLimit, AllLoud, Away, Moved};
+ghost use Rattle.activity.specs.Stored.{holding, stored, Placed, Bounded, twiceLimit, AllLoud, Away, Moved};
 use kinds::ClauseActivity;
 use kinds::DecayReply;
 use kinds::Plain;

@@ -12,9 +12,9 @@ use lib.Seq.{getD-set-same, getD-set-other}
 use borrow.Author.Tests.{eq-eqb, ne-eqb, le-leb, lt-leb}
 use Rattle.laws.specs.Fold.{allBelow, one, countBelow}
 use Rattle.laws.specs.Lists.{at}
-use Rattle.laws.proofs.Folds.{and-fails-left, and-fails-right, count-more}
+use Rattle.laws.proofs.Folds.{and-fails-right, count-more}
 use Rattle.calls.specs.Bumping.{levelOf, levelApart, levelNew, glueFor, tierFor, learnedGlue}
-use Rattle.calls.specs.Outcome.{Answer, assessed}
+use Rattle.calls.specs.Outcome.{assessed}
 use Rattle.kinds.specs.Header.{saturated}
 
 module _ (levels lits : List ℕ) where

@@ -1,6 +1,6 @@
 // Glue and assessing: the number of different levels, the tier by glue.
 ghost use mathlib.Core.Path.{_≡_};
-ghost use Prim.Native.Nat.{ℕ, _≤_, _<_};
+ghost use Prim.Native.Nat.{_<_};
 ghost use lib.ListN.{length};
 ghost use Rattle.kinds.specs.Header.{saturated};
 ghost use Rattle.kinds.specs.Numbers.{tierNumber};

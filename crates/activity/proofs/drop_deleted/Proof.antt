@@ -1,5 +1,3 @@
-use mathlib.Core.Path.{_≡_}
-use lib.ListN.{length}
 use borrow.Author.Needs.{needs}
 use Rattle.activity.proofs.Keeping.{dropped}
 use Rattle.activity.proofs.drop_deleted.Statement.{statement}

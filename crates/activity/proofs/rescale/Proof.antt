@@ -1,9 +1,9 @@
 use mathlib.Core.Path.{_≡_, sym, ap, _∙_, subst}
 use mathlib.Core.List.{List}
-use Prim.Native.Nat.{ℕ, _≤_, _<_}
+use Prim.Native.Nat.{ℕ, _≤_}
 use native.Mathlib.Omega.{arith}
 use lib.ListN.{length, take, length-append}
-use lib.Ieee.{Float, binary32, mul}
+use lib.Ieee.{binary32, mul}
 use borrow.Author.Needs.{needs}
 use Rattle.laws.specs.Fold.{foldList}
 use Rattle.laws.specs.Lists.{at, fill}

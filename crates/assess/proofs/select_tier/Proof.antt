@@ -1,6 +1,3 @@
-use mathlib.Core.Path.{_≡_, refl, sym}
-use Prim.Native.Nat.{ℕ, _≤_, _<_}
-use borrow.Author.Needs.{needs}
 use Rattle.assess.proofs.Glue.{core, mid, local}
 use Rattle.assess.proofs.select_tier.Statement.{statement}
 use Rattle.assess.proofs.select_tier.Tie as tie
