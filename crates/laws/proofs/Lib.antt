@@ -1,5 +1,6 @@
 pub mod Choices
 pub mod Fills
+pub mod Filling
 pub mod Folds
 pub mod Reading
 pub mod Sorting
