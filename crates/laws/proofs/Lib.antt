@@ -2,3 +2,5 @@ pub mod Choices
 pub mod Folds
 pub mod Reading
 pub mod Sorting
+pub mod Sums
+pub mod Loops
