@@ -8,7 +8,7 @@ use lib.ListN.{length, getD, take, drop, length-drop}
 use lib.Seq.{drop-drop, getD-take, getD-drop, length-take-le}
 use Rattle.laws.specs.Fold.{sumBelow}
 use Rattle.laws.specs.Lists.{at, listAt}
-use Rattle.laws.proofs.Sums.{sum-le, sum-next}
+use Rattle.laws.proofs.Totals.{sum-le, sum-next}
 use Rattle.kinds.specs.Lent.{roomOf}
 use Rattle.kinds.specs.Layout.{rowsOf}
 use Rattle.calls.specs.StorePasses.{rowLength}

@@ -11,7 +11,7 @@ use borrow.Author.Tests.{eq-eqb, eqb-true, ltb-true}
 use Rattle.laws.specs.Fold.{allBelow, countBelow}
 use Rattle.laws.specs.Lists.{at, listAt}
 use Rattle.laws.proofs.Folds.{all-at, all-of, and-left}
-use Rattle.laws.proofs.Sums.{count-cases}
+use Rattle.laws.proofs.Totals.{count-cases}
 use Rattle.kinds.specs.Clauses.{neg}
 use Rattle.kinds.specs.Held.{Held}
 use Rattle.calls.specs.StorePasses.{standsAt, rowEntryOk, rowInRange, rowsInRange, timesIn, symmetricAt, symmetricWith, rowsSymmetric, rowLength}

@@ -3,7 +3,7 @@ use Prim.Native.Nat.{_≤_, _-_}
 use Rattle.laws.specs.Fold.{countBelow}
 use Rattle.laws.specs.Lists.{listAt}
 use Rattle.laws.proofs.Folds.{count-none}
-use Rattle.laws.proofs.Sums.{count-end}
+use Rattle.laws.proofs.Totals.{count-end}
 use Rattle.calls.specs.StorePasses.{standsAt, timesIn, rowLength}
 use Rattle.judge_rows.specs.Rows.{rowsIn}
 use Rattle.judge_rows.proofs.Ways.{times-yes, times-no}
