@@ -10,7 +10,8 @@ use borrow.Author.Tests.{lt-ltb, le-ltb, eq-eqb, ne-eqb, not-true, not-false}
 use Rattle.laws.specs.Fold.{allBelow, countBelow, sumBelow}
 use Rattle.laws.specs.Lists.{at, listAt}
 use Rattle.laws.proofs.Folds.{and-fails-left, and-fails-right, all-same}
-use Rattle.laws.proofs.Totals.{count-yes, count-no, sum-same}
+use Rattle.laws.proofs.Sums.{sum-same}
+use Rattle.laws.proofs.Totals.{count-yes, count-no}
 use Rattle.kinds.specs.Clauses.{neg}
 use Rattle.kinds.specs.Held.{Held}
 use Rattle.calls.specs.StorePasses.{standsAt, rowEntryOk, rowInRange, rowsInRange, timesIn, symmetricAt, symmetricWith, rowsSymmetric, rowLength, binaryOk, rowsPass}

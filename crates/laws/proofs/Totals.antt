@@ -1,26 +1,18 @@
--- Sums over the indices below n, as a counting loop makes them. Assumes nothing.
-use mathlib.Core.Path.{_≡_, refl, sym, ap, ap₂, _∙_}
+-- Loops that add and count, and the bounds of what they make. Assumes nothing.
+use mathlib.Core.Path.{_≡_, refl, ap, _∙_}
 use mathlib.Core.Bool.{Bool, true, false}
 use mathlib.Core.Logic.{⊎-elim, _⊎_, inl, inr}
 use Prim.Native.Nat.{ℕ, zero, suc, _+_, _*_, _≤_, _<_}
 use native.Mathlib.Omega.{arith}
 use native.Mathlib.Nat.{le-antisymm, suc-mul}
-use native.Mathlib.Numerals.{add-one}
 use Rattle.laws.specs.Fold.{one, countBelow, sumBelow}
 use Rattle.laws.proofs.Folds.{count-more}
+use Rattle.laws.proofs.Sums.{sum-more}
 
 module _ (f : ℕ → ℕ) where
-  pub sum-none : sumBelow f 0 ≡ 0
-  unfolding sumBelow
-  sum-none = refl
-
-  pub sum-more : (i : ℕ) → sumBelow f (i + 1) ≡ sumBelow f i + f i
-  unfolding sumBelow
-  sum-more i = rw add-one
-
   -- a loop that adds f at each index from 0 on: x is what f gave at i
   pub sum-next : (i : ℕ) {n x m : ℕ} → n ≡ sumBelow f i → x ≡ f i → m ≡ n + x → m ≡ sumBelow f (i + 1)
-  sum-next i p q r = omega (arith, sum-more i)
+  sum-next i p q r = omega (arith, sum-more f i)
 
   pub sum-end : (i n : ℕ) {m : ℕ} → m ≡ sumBelow f i → i ≤ n → n ≤ i → m ≡ sumBelow f n
   sum-end i n p l g = p ∙ ap (sumBelow f) (le-antisymm l g)
@@ -29,11 +21,6 @@ module _ (f : ℕ → ℕ) where
   unfolding sumBelow
   sum-le zero m h = omega arith
   sum-le (suc n) m h = omega (arith, sum-le n m (λ k l. h k (omega arith)), h n (omega arith), suc-mul n m)
-
-pub sum-same : (f g : ℕ → ℕ) (n : ℕ) → ((k : ℕ) → k < n → f k ≡ g k) → sumBelow f n ≡ sumBelow g n
-unfolding sumBelow
-sum-same f g zero h = refl
-sum-same f g (suc n) h = ap₂ (λ (a b : ℕ). a + b) (sum-same f g n (λ k l. h k (omega arith))) (h n (omega arith))
 
 module _ (f : ℕ → Bool) where
   -- a loop that counts the indices of which f holds

@@ -2,7 +2,8 @@ use mathlib.Core.Path.{_≡_, refl, sym}
 use Rattle.judge_rows.proofs.Places.{sum-in, sum-with}
 use Prim.Native.Nat.{_≤_, _*_, _-_}
 use Rattle.laws.specs.Fold.{sumBelow}
-use Rattle.laws.proofs.Totals.{sum-none, sum-next, sum-end}
+use Rattle.laws.proofs.Sums.{sum-none}
+use Rattle.laws.proofs.Totals.{sum-next, sum-end}
 use Rattle.calls.specs.StorePasses.{rowLength}
 use Rattle.judge_rows.specs.Rows.{rowsIn}
 use native.Mathlib.Omega.{arith}
