@@ -113,7 +113,7 @@ fn removed_ok(vars: usize, seen: &[u8; 65536], values: &[u8], kinds: &[u8]) -> b
 
 // ---- literals under the assignment
 
-fn lit_at(words: &[u32], k: usize) -> Lit
+pub fn lit_at(words: &[u32], k: usize) -> Lit
     requires { ⌜ k < length (now words) ⌝ }
     ensures { λ r. ⌜ r .0 ≡ at (now (words .entry)) k ⌝ }
 {
@@ -131,7 +131,7 @@ fn is_true(values: &[u8], lit: Lit) -> bool
 }
 
 // Any number: one that is no literal is not false.
-fn is_false(values: &[u8], lit: Lit) -> bool
+pub fn is_false(values: &[u8], lit: Lit) -> bool
     ensures { λ r. ⌜ r ≡ isFalse (now (values .entry)) (lit .0) ⌝ }
 {
     let code = lit.0;
