@@ -1,10 +1,10 @@
 -- More of testing loops. Assumes nothing.
-use mathlib.Core.Path.{_≡_, refl, ap₂, _∙_}
+use mathlib.Core.Path.{_≡_, refl, sym, ap, ap₂, _∙_}
 use mathlib.Core.Bool.{Bool, true, false, not, _&&_, _||_}
 use Prim.Native.Nat.{ℕ, zero, suc, _≤_, _<_}
 use native.Mathlib.Omega.{arith}
 use Rattle.laws.specs.Fold.{allBelow, anyBelow}
-use Rattle.laws.proofs.Folds.{all-out, all-end}
+use Rattle.laws.proofs.Folds.{and-fails-left, all-out, all-end}
 
 -- a loop whose end was read first: len is what was read for m
 module _ (f : ℕ → Bool) (k len m : ℕ) (e : len ≡ m) where
@@ -23,3 +23,10 @@ all-not-any f g (suc n) h = ap₂ (λ (a b : Bool). a && b) (all-not-any f g n (
     both : (a b : Bool) → not a && not b ≡ not (a || b)
     both true b = refl
     both false b = refl
+
+-- a chain of tests that is left at the first failure
+pub and-cut : {a : Bool} (b : Bool) → a ≡ false → false ≡ a && b
+and-cut {a} b e = sym (and-fails-left a b e)
+
+pub and-on : {a b r : Bool} → a ≡ true → r ≡ b → r ≡ a && b
+and-on {a} {b} e p = p ∙ ap (λ (t : Bool). t && b) (sym e)
