@@ -14,6 +14,7 @@ use Rattle.laws.specs.Fold.{allBelow, anyBelow, one}
 use Rattle.laws.specs.Lists.{at}
 use Rattle.laws.proofs.Folds.{and-left, and-both, and-fails-left, and-fails-right, all-at, all-fails, all-same, any-same, any-more, any-none, or-right}
 use Rattle.laws.proofs.Loops.{all-not-any}
+use Rattle.laws.proofs.Tests.{or-false}
 use Rattle.kinds.specs.Clauses.{varOf}
 use Rattle.kinds.specs.Held.{Side}
 use Rattle.calls.specs.StorePasses.{apart, litOk, litsOk}
@@ -69,10 +70,6 @@ module _ (v : ℕ) (trail : List ℕ) (j : ℕ) where
         go x l (no q) =
             let here : meets trail x j ≡ false = ne-eqb (varOf (at trail j)) x (λ z. q (sym z ∙ ap (λ (y : ℕ). y / 2) (sym e))) in
             getD-set-other seen (code / 2) x 1 0 q ∙ s .mark x l ∙ sym (ap one (any-more (meets trail x) j ∙ ap (λ (b : Bool). anyBelow (meets trail x) j || b) here ∙ or-false (anyBelow (meets trail x) j)))
-          where
-            or-false : (b : Bool) → b || false ≡ b
-            or-false true = refl
-            or-false false = refl
 
 -- ---- each way out of `trail_once`
 

@@ -1,21 +1,19 @@
 -- The judging of the sizes and of the floats, for what is lent. Assumes nothing.
-use mathlib.Core.Path.{_≡_, refl, sym, ap₂, _∙_}
+use mathlib.Core.Path.{_≡_, refl, ap, _∙_}
 use mathlib.Core.Bool.{Bool, _&&_}
 use mathlib.Core.List.{List, []}
 use Prim.Native.Nat.{ℕ, _*_, _^_}
 use lib.ListN.{length}
 use lib.Dec.{eqb, leb}
-use Rattle.laws.specs.Fold.{allBelow}
 use Rattle.laws.proofs.Folds.{all-same}
 use Rattle.kinds.specs.declared.State.{State}
 use Rattle.kinds.specs.Floats.{bumpOk, inverseOk}
 use Rattle.kinds.specs.Lent.{Lent, Host, lent, lentFive, lentWords, lentRows, lentRecord, hostOf, noHost, levelsOnly}
 use Rattle.kinds.specs.Setters.{withUsed, withListed, withTierLengths, withRecorded}
 use Rattle.kinds.specs.Layout.{view}
-use Rattle.calls.specs.Size.{sized, wordsSized, tierSized, tiersSized, rowSized, rowsSized, recordSized, levelsSized, hostSized, tierAtMost, startSizesOk}
+use Rattle.calls.specs.Size.{wordsSized, tierSized, tiersSized, rowSized, rowsSized, recordSized, levelsSized, hostSized, tierAtMost, startSizesOk}
 use Rattle.calls.specs.StorePasses.{floatsPass}
 use Rattle.judge_sizes.specs.Blank.{ofVars}
-use Rattle.judge_sizes.proofs.Tiers.{at-most-same}
 
 -- k is what a call is lent
 module _ (s : State) (words clauses irred core mid local rows counts rec : List ℕ) (host : Host) where
@@ -33,7 +31,7 @@ module _ (s : State) (words clauses irred core mid local rows counts rec : List 
   pub rows-judged : {r : Bool} → r ≡ rowsSized (lentRows (ofVars (s .vars)) rows counts) → r ≡ rowsSized whole
   unfolding rowsSized rowSized
   rows-judged p =
-      p ∙ ap₂ (λ (a b : Bool). leb (length rows) (2 ^ 24) && (a && b)) refl
+      p ∙ ap (λ (b : Bool). leb (length rows) (2 ^ 24) && (eqb (length counts) (2 * s .vars) && b))
       (all-same (rowSized (lentRows (ofVars (s .vars)) rows counts)) (rowSized whole) (2 * s .vars) (λ c h. refl))
 
   pub record-judged : {r : Bool} → r ≡ recordSized (lentRecord (withRecorded (s .recorded) (ofVars 0)) rec) → r ≡ recordSized whole
