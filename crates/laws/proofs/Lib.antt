@@ -12,3 +12,5 @@ pub mod Writing
 pub mod Entries
 pub mod Sums
 pub mod Tests
+pub mod Totals
+pub mod Loops

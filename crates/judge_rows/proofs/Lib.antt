@@ -1,0 +1,4 @@
+pub mod Places
+pub mod Symmetric
+pub mod Ways
+pub mod Whole
