@@ -15,7 +15,7 @@ use Rattle.calls.specs.Call.{wordsAndList, fiveLists, fiveListsLevels, fiveList
 use Rattle.calls.specs.Size.{varsInRange, wordsSized, tierSized, tiersSized, rowsSized, recordSized, levelsSized, hostSized, sizesOk}
 use Rattle.calls.specs.StorePasses.{wordsPass, tierOk, tiersOk, rowsPass, floatsPass, storePasses}
 use Rattle.calls.specs.HostPasses.{levelsInRange, sidePasses, longReasonsOk, hostPasses}
-use Rattle.judge.specs.Sides.{listSized, fiveSized, listPasses, fivePass, sideSized, hostPassing}
+use Rattle.judge_pieces.specs.Sides.{listSized, fiveSized, listPasses, fivePass, sideSized, hostPassing}
 
 regroup : (a b x : Bool) → a && (b && x) ≡ (a && b) && x
 regroup true b x = refl
@@ -71,7 +71,7 @@ module _ (k : Lent) where
   unfolding sizesOk
   sizes-levels = ap (λ (b : Bool). varsInRange (k .state .vars) && b) (and-true (levelsSized (k .state .vars) (k .host)))
 
--- ---- 2 and 3
+  -- ---- 2 and 3
 
   pub store-list : storePasses wordsAndList (view k) ≡ listPasses (view k)
   unfolding storePasses listPasses
