@@ -16,7 +16,7 @@ same-length : tie.Need-same-length
 same-length c = search needs
 
 returns : tie.Need-returns
-returns c = 
+returns c =
     let s = c .before .before .before .before .before .before .before .before .before .before in
     let a = s .args in
     let k = lent (a .s) (a .words .now) (a .clauses .now) (a .irred .now) (a .core .now) (a .mid .now) (a .local .now) [] [] [] (levelsOnly (a .levels .now)) in
@@ -29,14 +29,14 @@ same-length-2 : tie.Need-same-length-2
 same-length-2 c = search needs
 
 returns-2 : tie.Need-returns-2
-returns-2 c = 
+returns-2 c =
     let s = c .before .before .before .before .before .before .before .before .before .before .before .before in
     let a = s .args in
     let k = lent (a .s) (a .words .now) (a .clauses .now) (a .irred .now) (a .core .now) (a .mid .now) (a .local .now) [] [] [] (levelsOnly (a .levels .now)) in
     (one fiveListsLevels k (sizes-five-levels k) (and-in (five-sizes (a .s) (a .words .now) (a .clauses .now) (a .irred .now) (a .core .now) (a .mid .now) (a .local .now) [] [] [] (levelsOnly (a .levels .now)) (c .before .before .before .five-sized .ensures)) (c .before .before .if1 .left) (sym (failed (levels-size (a .s .vars) (levelsOnly (a .levels .now)) (c .before .levels-sized .ensures)) (c .if2 .taken)))), refl)
 
 five-pass-requires : tie.Need-five-pass-requires
-five-pass-requires c κs = 
+five-pass-requires c κs =
     let s = c .before .before .before .before .before .before .before .before .before .before .before .before .before in
     let a = s .args in
     let k = lent (a .s) (a .words .now) (a .clauses .now) (a .irred .now) (a .core .now) (a .mid .now) (a .local .now) [] [] [] (levelsOnly (a .levels .now)) in
@@ -46,14 +46,14 @@ same-length-3 : tie.Need-same-length-3
 same-length-3 c = search needs
 
 returns-3 : tie.Need-returns-3
-returns-3 c = 
+returns-3 c =
     let s = c .before .before .before .before .before .before .before .before .before .before .before .before .before .before .before .before .before in
     let a = s .args in
     let k = lent (a .s) (a .words .now) (a .clauses .now) (a .irred .now) (a .core .now) (a .mid .now) (a .local .now) [] [] [] (levelsOnly (a .levels .now)) in
     (two fiveListsLevels k (sizes-five-levels k) (and-in (five-sizes (a .s) (a .words .now) (a .clauses .now) (a .irred .now) (a .core .now) (a .mid .now) (a .local .now) [] [] [] (levelsOnly (a .levels .now)) (c .before .before .before .before .before .before .before .before .five-sized .ensures)) (c .before .before .before .before .before .before .before .if1 .left) (sym (passed (levels-size (a .s .vars) (levelsOnly (a .levels .now)) (c .before .before .before .before .before .before .levels-sized .ensures)) (c .before .before .before .before .before .if2 .left)))) (store-five-levels k) (sym (failed (five-store (a .s) (a .words .now) (a .clauses .now) (a .irred .now) (a .core .now) (a .mid .now) (a .local .now) [] [] [] (levelsOnly (a .levels .now)) (c .before .before .before .five-pass .ensures .0)) (c .if3 .taken))), c .before .before .before .five-pass .ensures .1)
 
 levels-pass-requires : tie.Need-levels-pass-requires
-levels-pass-requires c κs = 
+levels-pass-requires c κs =
     let s = c .before .before .before .before .before .before .before .before .before .before .before .before .before .before .before .before .before in
     let a = s .args in
     let k = lent (a .s) (a .words .now) (a .clauses .now) (a .irred .now) (a .core .now) (a .mid .now) (a .local .now) [] [] [] (levelsOnly (a .levels .now)) in
@@ -63,7 +63,7 @@ same-length-4 : tie.Need-same-length-4
 same-length-4 c = search needs
 
 returns-4 : tie.Need-returns-4
-returns-4 c = 
+returns-4 c =
     let s = c .before .before .before .before .before .before .before .before .before .before .before .before .before .before .before .before .before .before .before in
     let a = s .args in
     let k = lent (a .s) (a .words .now) (a .clauses .now) (a .irred .now) (a .core .now) (a .mid .now) (a .local .now) [] [] [] (levelsOnly (a .levels .now)) in
@@ -73,7 +73,7 @@ same-length-5 : tie.Need-same-length-5
 same-length-5 c = search needs
 
 returns-5 : tie.Need-returns-5
-returns-5 c = 
+returns-5 c =
     let s = c .before .before .before .before .before .before .before .before .before .before .before .before .before .before .before .before .before .before .before in
     let a = s .args in
     let k = lent (a .s) (a .words .now) (a .clauses .now) (a .irred .now) (a .core .now) (a .mid .now) (a .local .now) [] [] [] (levelsOnly (a .levels .now)) in

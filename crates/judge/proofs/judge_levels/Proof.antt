@@ -1,39 +1,49 @@
+use mathlib.Core.Path.{refl, sym, _∙_}
+use mathlib.Core.List.{[]}
+use Rattle.laws.proofs.Tests.{and-out, and-in, passed, failed}
+use Rattle.judge.proofs.Ways.{one, two, three, none, rows-size, record-size, levels-size, rows-store, rows-asked, levels-answer, levels-asked}
+use Rattle.kinds.specs.Lent.{lentLevels, levelsOnly}
+use Rattle.calls.specs.Call.{onlyLevels}
+use Rattle.judge_pieces.proofs.Pieces.{sizes-levels, store-levels, host-levels}
 use borrow.Author.Needs.{needs}
 use Rattle.judge.proofs.judge_levels.Statement.{statement}
 use Rattle.judge.proofs.judge_levels.Tie as tie
-use Rattle.judge.proofs.judge_levels.Reads as reads
-use Rattle.judge.proofs.judge_levels.Lts as lts
-use Rattle.judge_host.proofs.levels_pass.Reads as levels-pass-reads
-use Rattle.judge_sizes.proofs.levels_sized.Reads as levels-sized-reads
-use Rattle.judge_sizes.proofs.vars_in_range.Reads as vars-in-range-reads
 
--- src/lib.rt:353:9
 vars-in-range-requires : tie.Need-vars-in-range-requires
 vars-in-range-requires c κs = search needs
 
--- src/lib.rt:354:9
 returns : tie.Need-returns
-returns c = ?
+returns c =
+    let a = c .before .before .before .args in
+    let k = lentLevels (a .vars) (a .levels .now) in
+    one onlyLevels k (sizes-levels k) (and-out _ (c .before .vars-in-range .ensures) (c .if1 .taken))
 
--- src/lib.rt:356:9
 levels-sized-requires : tie.Need-levels-sized-requires
 levels-sized-requires c κs = search needs
 
--- src/lib.rt:357:9
 returns-2 : tie.Need-returns-2
-returns-2 c = ?
+returns-2 c =
+    let a = c .before .before .before .before .before .args in
+    let k = lentLevels (a .vars) (a .levels .now) in
+    one onlyLevels k (sizes-levels k) (and-in (c .before .before .before .vars-in-range .ensures) (c .before .before .if1 .left) (sym (failed (levels-size (a .vars) (levelsOnly (a .levels .now)) (c .before .levels-sized .ensures)) (c .if2 .taken))))
 
--- src/lib.rt:359:9
 levels-pass-requires : tie.Need-levels-pass-requires
-levels-pass-requires c κs = ?
+levels-pass-requires c κs =
+    let a = c .before .before .before .before .before .args in
+    let k = lentLevels (a .vars) (a .levels .now) in
+    levels-asked k (passed (levels-size (a .vars) (levelsOnly (a .levels .now)) (c .before .levels-sized .ensures)) (c .if2 .left))
 
--- src/lib.rt:360:9
 returns-3 : tie.Need-returns-3
-returns-3 c = ?
+returns-3 c =
+    let a = c .before .before .before .before .before .before .before .args in
+    let k = lentLevels (a .vars) (a .levels .now) in
+    three onlyLevels k (sizes-levels k) (and-in (c .before .before .before .before .before .vars-in-range .ensures) (c .before .before .before .before .if1 .left) (sym (passed (levels-size (a .vars) (levelsOnly (a .levels .now)) (c .before .before .before .levels-sized .ensures)) (c .before .before .if2 .left)))) (store-levels k) (refl) (host-levels k) (sym (failed (levels-answer k (c .before .levels-pass .ensures)) (c .if3 .taken)))
 
--- src/lib.rt:350:1
 returns-4 : tie.Need-returns-4
-returns-4 c = ?
+returns-4 c =
+    let a = c .before .before .before .before .before .before .before .args in
+    let k = lentLevels (a .vars) (a .levels .now) in
+    none onlyLevels k (sizes-levels k) (and-in (c .before .before .before .before .before .vars-in-range .ensures) (c .before .before .before .before .if1 .left) (sym (passed (levels-size (a .vars) (levelsOnly (a .levels .now)) (c .before .before .before .levels-sized .ensures)) (c .before .before .if2 .left)))) (store-levels k) (refl) (host-levels k) (sym (passed (levels-answer k (c .before .levels-pass .ensures)) (c .if3 .left)))
 
 pub judge-levels-spec : {M : Type 1} → statement M
 judge-levels-spec =

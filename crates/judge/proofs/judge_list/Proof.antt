@@ -13,28 +13,28 @@ list-sized-requires : tie.Need-list-sized-requires
 list-sized-requires c κs = search needs
 
 returns : tie.Need-returns
-returns c = 
+returns c =
     let s = c .before .before .before .before in
     let a = s .args in
     let k = lent (a .s) (a .words .now) (a .clauses .now) [] [] [] [] [] [] [] noHost in
     one wordsAndList k (sizes-list k) (sym (failed (list-sizes (a .s) (a .words .now) (a .clauses .now) [] [] [] [] [] [] [] noHost (c .before .list-sized .ensures)) (c .if1 .taken)))
 
 list-passes-requires : tie.Need-list-passes-requires
-list-passes-requires c κs = 
+list-passes-requires c κs =
     let s = c .before .before .before .before in
     let a = s .args in
     let k = lent (a .s) (a .words .now) (a .clauses .now) [] [] [] [] [] [] [] noHost in
     list-asked (a .s) (a .words .now) (a .clauses .now) [] [] [] [] [] [] [] noHost (passed (list-sizes (a .s) (a .words .now) (a .clauses .now) [] [] [] [] [] [] [] noHost (c .before .list-sized .ensures)) (c .if1 .left))
 
 returns-2 : tie.Need-returns-2
-returns-2 c = 
+returns-2 c =
     let s = c .before .before .before .before .before .before in
     let a = s .args in
     let k = lent (a .s) (a .words .now) (a .clauses .now) [] [] [] [] [] [] [] noHost in
     two wordsAndList k (sizes-list k) (sym (passed (list-sizes (a .s) (a .words .now) (a .clauses .now) [] [] [] [] [] [] [] noHost (c .before .before .before .list-sized .ensures)) (c .before .before .if1 .left))) (store-list k) (sym (failed (list-store (a .s) (a .words .now) (a .clauses .now) [] [] [] [] [] [] [] noHost (c .before .list-passes .ensures)) (c .if2 .taken)))
 
 returns-3 : tie.Need-returns-3
-returns-3 c = 
+returns-3 c =
     let s = c .before .before .before .before .before .before in
     let a = s .args in
     let k = lent (a .s) (a .words .now) (a .clauses .now) [] [] [] [] [] [] [] noHost in

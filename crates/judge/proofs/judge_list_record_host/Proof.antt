@@ -13,7 +13,7 @@ list-sized-requires : tie.Need-list-sized-requires
 list-sized-requires c κs = search needs
 
 returns : tie.Need-returns
-returns c = 
+returns c =
     let s = c .before .before .before .before .before .before .before .before .before .before in
     let a = s .args in
     let k = lent (a .s) (a .words .now) (a .clauses .now) [] [] [] [] [] [] (a .rec .now) (hostOf (a .values .now) (a .kinds .now) (a .reasons .now) (a .levels .now) (a .trail .now) (a .assigned) (a .level)) in
@@ -23,7 +23,7 @@ record-sized-requires : tie.Need-record-sized-requires
 record-sized-requires c κs = search needs
 
 returns-2 : tie.Need-returns-2
-returns-2 c = 
+returns-2 c =
     let s = c .before .before .before .before .before .before .before .before .before .before .before .before in
     let a = s .args in
     let k = lent (a .s) (a .words .now) (a .clauses .now) [] [] [] [] [] [] (a .rec .now) (hostOf (a .values .now) (a .kinds .now) (a .reasons .now) (a .levels .now) (a .trail .now) (a .assigned) (a .level)) in
@@ -33,42 +33,42 @@ side-sized-requires : tie.Need-side-sized-requires
 side-sized-requires c κs = search needs
 
 returns-3 : tie.Need-returns-3
-returns-3 c = 
+returns-3 c =
     let s = c .before .before .before .before .before .before .before .before .before .before .before .before .before .before in
     let a = s .args in
     let k = lent (a .s) (a .words .now) (a .clauses .now) [] [] [] [] [] [] (a .rec .now) (hostOf (a .values .now) (a .kinds .now) (a .reasons .now) (a .levels .now) (a .trail .now) (a .assigned) (a .level)) in
     one wordsRecordHost k (sizes-list-record-host k) (and-in (list-sizes (a .s) (a .words .now) (a .clauses .now) [] [] [] [] [] [] (a .rec .now) (hostOf (a .values .now) (a .kinds .now) (a .reasons .now) (a .levels .now) (a .trail .now) (a .assigned) (a .level)) (c .before .before .before .before .before .list-sized .ensures)) (c .before .before .before .before .if1 .left) (and-in (record-size (a .s) (a .words .now) (a .clauses .now) [] [] [] [] [] [] (a .rec .now) (hostOf (a .values .now) (a .kinds .now) (a .reasons .now) (a .levels .now) (a .trail .now) (a .assigned) (a .level)) (c .before .before .before .record-sized .ensures)) (c .before .before .if2 .left) (sym (failed (side-size (a .s) (a .words .now) (a .clauses .now) [] [] [] [] [] [] (a .rec .now) (hostOf (a .values .now) (a .kinds .now) (a .reasons .now) (a .levels .now) (a .trail .now) (a .assigned) (a .level)) (c .before .side-sized .ensures)) (c .if3 .taken)))))
 
 list-passes-requires : tie.Need-list-passes-requires
-list-passes-requires c κs = 
+list-passes-requires c κs =
     let s = c .before .before .before .before .before .before .before .before .before .before .before .before .before .before in
     let a = s .args in
     let k = lent (a .s) (a .words .now) (a .clauses .now) [] [] [] [] [] [] (a .rec .now) (hostOf (a .values .now) (a .kinds .now) (a .reasons .now) (a .levels .now) (a .trail .now) (a .assigned) (a .level)) in
     list-asked (a .s) (a .words .now) (a .clauses .now) [] [] [] [] [] [] (a .rec .now) (hostOf (a .values .now) (a .kinds .now) (a .reasons .now) (a .levels .now) (a .trail .now) (a .assigned) (a .level)) (passed (list-sizes (a .s) (a .words .now) (a .clauses .now) [] [] [] [] [] [] (a .rec .now) (hostOf (a .values .now) (a .kinds .now) (a .reasons .now) (a .levels .now) (a .trail .now) (a .assigned) (a .level)) (c .before .before .before .before .before .list-sized .ensures)) (c .before .before .before .before .if1 .left))
 
 returns-4 : tie.Need-returns-4
-returns-4 c = 
+returns-4 c =
     let s = c .before .before .before .before .before .before .before .before .before .before .before .before .before .before .before .before in
     let a = s .args in
     let k = lent (a .s) (a .words .now) (a .clauses .now) [] [] [] [] [] [] (a .rec .now) (hostOf (a .values .now) (a .kinds .now) (a .reasons .now) (a .levels .now) (a .trail .now) (a .assigned) (a .level)) in
     two wordsRecordHost k (sizes-list-record-host k) (and-in (list-sizes (a .s) (a .words .now) (a .clauses .now) [] [] [] [] [] [] (a .rec .now) (hostOf (a .values .now) (a .kinds .now) (a .reasons .now) (a .levels .now) (a .trail .now) (a .assigned) (a .level)) (c .before .before .before .before .before .before .before .list-sized .ensures)) (c .before .before .before .before .before .before .if1 .left) (and-in (record-size (a .s) (a .words .now) (a .clauses .now) [] [] [] [] [] [] (a .rec .now) (hostOf (a .values .now) (a .kinds .now) (a .reasons .now) (a .levels .now) (a .trail .now) (a .assigned) (a .level)) (c .before .before .before .before .before .record-sized .ensures)) (c .before .before .before .before .if2 .left) (sym (passed (side-size (a .s) (a .words .now) (a .clauses .now) [] [] [] [] [] [] (a .rec .now) (hostOf (a .values .now) (a .kinds .now) (a .reasons .now) (a .levels .now) (a .trail .now) (a .assigned) (a .level)) (c .before .before .before .side-sized .ensures)) (c .before .before .if3 .left))))) (store-list-record-host k) (sym (failed (list-store (a .s) (a .words .now) (a .clauses .now) [] [] [] [] [] [] (a .rec .now) (hostOf (a .values .now) (a .kinds .now) (a .reasons .now) (a .levels .now) (a .trail .now) (a .assigned) (a .level)) (c .before .list-passes .ensures)) (c .if4 .taken)))
 
 host-passes-requires : tie.Need-host-passes-requires
-host-passes-requires c κs = 
+host-passes-requires c κs =
     let s = c .before .before .before .before .before .before .before .before .before .before .before .before .before .before .before .before in
     let a = s .args in
     let k = lent (a .s) (a .words .now) (a .clauses .now) [] [] [] [] [] [] (a .rec .now) (hostOf (a .values .now) (a .kinds .now) (a .reasons .now) (a .levels .now) (a .trail .now) (a .assigned) (a .level)) in
     list-listed (a .s) (a .words .now) (a .clauses .now) [] [] [] [] [] [] (a .rec .now) (hostOf (a .values .now) (a .kinds .now) (a .reasons .now) (a .levels .now) (a .trail .now) (a .assigned) (a .level)) (passed (list-sizes (a .s) (a .words .now) (a .clauses .now) [] [] [] [] [] [] (a .rec .now) (hostOf (a .values .now) (a .kinds .now) (a .reasons .now) (a .levels .now) (a .trail .now) (a .assigned) (a .level)) (c .before .before .before .before .before .before .before .list-sized .ensures)) (c .before .before .before .before .before .before .if1 .left)) (passed (side-size (a .s) (a .words .now) (a .clauses .now) [] [] [] [] [] [] (a .rec .now) (hostOf (a .values .now) (a .kinds .now) (a .reasons .now) (a .levels .now) (a .trail .now) (a .assigned) (a .level)) (c .before .before .before .side-sized .ensures)) (c .before .before .if3 .left)) (passed (list-store (a .s) (a .words .now) (a .clauses .now) [] [] [] [] [] [] (a .rec .now) (hostOf (a .values .now) (a .kinds .now) (a .reasons .now) (a .levels .now) (a .trail .now) (a .assigned) (a .level)) (c .before .list-passes .ensures)) (c .if4 .left))
 
 returns-5 : tie.Need-returns-5
-returns-5 c = 
+returns-5 c =
     let s = c .before .before .before .before .before .before .before .before .before .before .before .before .before .before .before .before .before .before in
     let a = s .args in
     let k = lent (a .s) (a .words .now) (a .clauses .now) [] [] [] [] [] [] (a .rec .now) (hostOf (a .values .now) (a .kinds .now) (a .reasons .now) (a .levels .now) (a .trail .now) (a .assigned) (a .level)) in
     three wordsRecordHost k (sizes-list-record-host k) (and-in (list-sizes (a .s) (a .words .now) (a .clauses .now) [] [] [] [] [] [] (a .rec .now) (hostOf (a .values .now) (a .kinds .now) (a .reasons .now) (a .levels .now) (a .trail .now) (a .assigned) (a .level)) (c .before .before .before .before .before .before .before .before .before .list-sized .ensures)) (c .before .before .before .before .before .before .before .before .if1 .left) (and-in (record-size (a .s) (a .words .now) (a .clauses .now) [] [] [] [] [] [] (a .rec .now) (hostOf (a .values .now) (a .kinds .now) (a .reasons .now) (a .levels .now) (a .trail .now) (a .assigned) (a .level)) (c .before .before .before .before .before .before .before .record-sized .ensures)) (c .before .before .before .before .before .before .if2 .left) (sym (passed (side-size (a .s) (a .words .now) (a .clauses .now) [] [] [] [] [] [] (a .rec .now) (hostOf (a .values .now) (a .kinds .now) (a .reasons .now) (a .levels .now) (a .trail .now) (a .assigned) (a .level)) (c .before .before .before .before .before .side-sized .ensures)) (c .before .before .before .before .if3 .left))))) (store-list-record-host k) (sym (passed (list-store (a .s) (a .words .now) (a .clauses .now) [] [] [] [] [] [] (a .rec .now) (hostOf (a .values .now) (a .kinds .now) (a .reasons .now) (a .levels .now) (a .trail .now) (a .assigned) (a .level)) (c .before .before .before .list-passes .ensures)) (c .before .before .if4 .left))) (host-whole k .2) (sym (failed (host-answer (a .s) (a .words .now) (a .clauses .now) [] [] [] [] [] [] (a .rec .now) (hostOf (a .values .now) (a .kinds .now) (a .reasons .now) (a .levels .now) (a .trail .now) (a .assigned) (a .level)) (c .before .host-passes .ensures)) (c .if5 .taken)))
 
 returns-6 : tie.Need-returns-6
-returns-6 c = 
+returns-6 c =
     let s = c .before .before .before .before .before .before .before .before .before .before .before .before .before .before .before .before .before .before in
     let a = s .args in
     let k = lent (a .s) (a .words .now) (a .clauses .now) [] [] [] [] [] [] (a .rec .now) (hostOf (a .values .now) (a .kinds .now) (a .reasons .now) (a .levels .now) (a .trail .now) (a .assigned) (a .level)) in
