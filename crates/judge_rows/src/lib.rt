@@ -4,11 +4,11 @@ ghost use mathlib.Core.Path.{_≡_};
 ghost use mathlib.Core.Bool.{true};
 ghost use Prim.Native.Nat.{ℕ, _+_, _*_, _≤_, _<_, _^_};
 ghost use lib.ListN.{length};
-ghost use Rattle.laws.specs.Fold.{sumBelow};
+ghost use Rattle.laws.specs.Fold.{countBelow, sumBelow};
 ghost use Rattle.laws.specs.Lists.{at, listAt};
 ghost use Rattle.kinds.specs.Lent.{roomOf};
 ghost use Rattle.kinds.specs.Held.{withBinary};
-ghost use Rattle.calls.specs.StorePasses.{rowEntryOk, rowInRange, rowsInRange, timesIn, rowsSymmetric, rowLength, rowsPass};
+ghost use Rattle.calls.specs.StorePasses.{standsAt, rowEntryOk, rowInRange, rowsInRange, timesIn, rowsSymmetric, rowLength, rowsPass};
 ghost use Rattle.judge_rows.specs.Rows.{rowsIn, RowsSized, entryEven, rowEven};
 
 // ---- reading a row: all else goes by these two
@@ -74,22 +74,31 @@ fn rows_in_range(vars: usize, rows: &[u32], counts: &[u32]) -> bool
 
 // ---- "Rows are symmetric": each entry's count against its partner's
 
-// How often x stands in the row of the code c.
-fn times_in(vars: usize, rows: &[u32], counts: &[u32], c: usize, x: usize) -> usize
-    requires { ⌜ RowsSized vars (now rows) (now counts) × (c < 2 * vars) ⌝ }
-    ensures { λ r. ⌜ r ≡ timesIn (rowsIn vars (now (rows .entry)) (now (counts .entry))) c x ⌝ }
+// How often x stands in a row.
+fn occurs(row: &[u32], x: usize) -> usize
+    ensures { λ r. ⌜ r ≡ countBelow (standsAt (now (row .entry)) x) (length (now (row .entry))) ⌝ }
 {
-    let len = row_length(vars, rows, counts, c);
     let mut times = 0;
     let mut k = 0;
-    while k < len {
-        let b = row_entry(vars, rows, counts, c, k);
+    while k < row.len() {
+        let b = word(row, k);
         k += 1;
         if b == x {
             times += 1;
         }
     }
     times
+}
+
+// How often x stands in the row of the code c.
+fn times_in(vars: usize, rows: &[u32], counts: &[u32], c: usize, x: usize) -> usize
+    requires { ⌜ RowsSized vars (now rows) (now counts) × (c < 2 * vars) ⌝ }
+    ensures { λ r. ⌜ r ≡ timesIn (rowsIn vars (now (rows .entry)) (now (counts .entry))) c x ⌝ }
+{
+    let len = row_length(vars, rows, counts, c);
+    let start = c * (rows.len() / (2 * vars));
+    let end = start + len;
+    occurs(&rows[start..end], x)
 }
 
 // The rows' entries were found in range before.
