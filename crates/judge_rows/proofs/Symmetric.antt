@@ -28,7 +28,7 @@ neg-neg x = omega (arith, neg-odd x)
 pub neg-lt : (x v : ℕ) → x < 2 * v → neg x < 2 * v
 neg-lt x v h = omega arith
 
-bool-iff : (a b : Bool) → (a ≡ true → b ≡ true) → (b ≡ true → a ≡ true) → a ≡ b
+pub bool-iff : (a b : Bool) → (a ≡ true → b ≡ true) → (b ≡ true → a ≡ true) → a ≡ b
 bool-iff true b p q = sym (p refl)
 bool-iff false true p q = q refl
 bool-iff false false p q = refl
@@ -63,7 +63,7 @@ module _ (h : Held) (g : rowsInRange h ≡ true) where
         go (inl p) (inl q) = p ∙ sym q
 
   module _ (e : rowsSymmetric h ≡ true) where
-    entries : (c k : ℕ) → c < 2 * h .vars → k < rowLength h c → entryEven h c k ≡ true
+    pub entries : (c k : ℕ) → c < 2 * h .vars → k < rowLength h c → entryEven h c k ≡ true
     unfolding rowsSymmetric symmetricWith symmetricAt entryEven
     entries c k f l =
         let b = at (listAt (h .rows) c) k in

@@ -6,3 +6,4 @@ pub mod Sums
 pub mod Tests
 pub mod Totals
 pub mod Loops
+pub mod Values
