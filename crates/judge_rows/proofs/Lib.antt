@@ -3,3 +3,4 @@ pub mod Symmetric
 pub mod Ways
 pub mod Whole
 pub mod Sparse
+pub mod Numbering

@@ -1,10 +1,10 @@
 -- Where the row of a code lies in the buffer. Assumes nothing.
 use mathlib.Core.Path.{_≡_, refl, sym, ap, _∙_}
 use mathlib.Core.List.{List, [], _∷_}
-use Prim.Native.Nat.{ℕ, zero, suc, _+_, _-_, _*_, _/_, _^_, _≤_, _<_}
+use Prim.Native.Nat.{ℕ, zero, suc, _+_, _-_, _*_, _^_, _≤_, _<_}
 use native.Mathlib.Omega.{arith}
 use native.Mathlib.Nat.{zero-mul, suc-mul, mul-le-mul-right, mul-div-le, le-of-suc-le-suc, not-suc-le-zero}
-use lib.ListN.{length, getD, take, drop, length-drop}
+use lib.ListN.{length, take, drop, length-drop}
 use lib.Seq.{drop-drop, getD-take, getD-drop, length-take-le}
 use Rattle.laws.specs.Fold.{countBelow, sumBelow}
 use Rattle.laws.specs.Lists.{at, listAt}

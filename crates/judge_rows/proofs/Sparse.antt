@@ -1,15 +1,15 @@
 -- The sparse test is the rule on all pairs of codes: the entries that are not tested are as many as their partners only if each has its partner. Assumes nothing.
 use mathlib.Core.Path.{_≡_, refl, sym, ap, ap₂, _∙_, subst}
 use mathlib.Core.Logic.{⊎-elim, _⊎_, inl, inr}
-use mathlib.Core.Bool.{Bool, true, false, _&&_, _||_, true≢false}
+use mathlib.Core.Bool.{Bool, true, false, _||_, true≢false}
 use mathlib.Core.List.{List}
-use Prim.Native.Nat.{ℕ, zero, suc, _+_, _-_, _*_, _%_, _≤_, _<_}
+use Prim.Native.Nat.{ℕ, zero, suc, _-_, _*_, _≤_, _<_}
 use native.Mathlib.Omega.{arith}
 use native.Mathlib.Decide.{decLt}
 use native.Mathlib.Nat.{mul-add, mul-zero, mul-one, one-mul, zero-mul}
 use lib.ListN.{length}
-use lib.Dec.{eqb, ltb}
-use borrow.Author.Tests.{eq-eqb, ne-eqb, eqb-true, lt-ltb, le-ltb, ltb-true, ltb-false}
+use lib.Dec.{ltb}
+use borrow.Author.Tests.{eq-eqb, ne-eqb, eqb-true, lt-ltb, le-ltb}
 use Rattle.laws.specs.Fold.{allBelow, one, countBelow, sumBelow}
 use Rattle.laws.specs.Lists.{at, listAt}
 use Rattle.laws.proofs.Folds.{and-left, and-right, and-both, or-right, all-at, all-of}
@@ -21,7 +21,7 @@ use Rattle.kinds.specs.Held.{Held}
 use Rattle.calls.specs.StorePasses.{standsAt, rowsInRange, timesIn, symmetricAt, symmetricWith, rowsSymmetric, rowLength}
 use Rattle.judge_rows.specs.Rows.{entryEven}
 use Rattle.judge_rows.specs.Sparse.{shorter, downAt, down, upFrom, up, sparseAt, sparseRow}
-use Rattle.judge_rows.proofs.Symmetric.{neg-odd, neg-neg, neg-lt, bool-iff, entry-below, entries}
+use Rattle.judge_rows.proofs.Symmetric.{neg-neg, neg-lt, bool-iff, entry-below, entries}
 
 -- ---- a count over entries as a sum over values
 

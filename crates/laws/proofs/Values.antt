@@ -1,17 +1,10 @@
 -- Sums by value: a count over the entries of a list is a sum over the values they may have. Assumes nothing.
 use mathlib.Core.Path.{_≡_, refl, sym, ap, ap₂, _∙_}
-use mathlib.Core.Bool.{Bool, true, false}
-use mathlib.Core.List.{List}
 use mathlib.Core.Logic.{⊎-elim}
-use Prim.Native.Nat.{ℕ, zero, suc, _+_, _-_, _*_, _%_, _≤_, _<_}
+use Prim.Native.Nat.{ℕ, zero, suc, _+_, _-_, _≤_, _<_}
 use native.Mathlib.Omega.{arith}
-use native.Mathlib.Decide.{ℕ-discrete}
-use native.Mathlib.Nat.{eq-or-lt-of-le, le-of-suc-le-suc, mul-add, mul-zero, mul-one}
-use lib.Dec.{eqb}
-use borrow.Author.Tests.{eq-eqb, ne-eqb}
-use Rattle.laws.specs.Fold.{one, countBelow, sumBelow}
-use Rattle.laws.specs.Lists.{at}
-use Rattle.laws.proofs.Sums.{sum-same}
+use native.Mathlib.Nat.{eq-or-lt-of-le, le-of-suc-le-suc}
+use Rattle.laws.specs.Fold.{one, sumBelow}
 
 module _ (f g : ℕ → ℕ) where
   pub sum-mono : (n : ℕ) → ((k : ℕ) → k < n → f k ≤ g k) → sumBelow f n ≤ sumBelow g n
