@@ -18,8 +18,8 @@ use Rattle.laws.proofs.Tests.{or-false}
 use Rattle.kinds.specs.Clauses.{varOf}
 use Rattle.kinds.specs.Held.{Side}
 use Rattle.calls.specs.StorePasses.{apart, litOk, litsOk}
-use Rattle.calls.specs.HostPasses.{variableAt, onTrail, offTrailOk, removedOk, trailInRange}
-use Rattle.judge_host.specs.Sides.{sideOf, Coded, meets, Seen, Once, seenOk}
+use Rattle.calls.specs.HostPasses.{variableAt, onTrail, offTrailOk, removedOk}
+use Rattle.judge_host.specs.Sides.{Coded, meets, Seen, Once, seenOk}
 
 -- nothing is met at first
 pub seen-none : (trail seen : List ℕ) → seen ≡ replicate 65536 0 → Seen trail 0 seen

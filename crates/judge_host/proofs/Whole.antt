@@ -1,8 +1,7 @@
 -- The judging of the host's side, for what is lent. Assumes nothing.
-use mathlib.Core.Path.{_≡_, refl, sym, ap, _∙_}
-use mathlib.Core.Bool.{Bool, true, _&&_}
-use mathlib.Core.List.{List}
-use Prim.Native.Nat.{ℕ, _≤_, _<_}
+use mathlib.Core.Path.{_≡_}
+use mathlib.Core.Bool.{Bool, true}
+use Prim.Native.Nat.{ℕ, _≤_}
 use native.Mathlib.Omega.{arith}
 use lib.ListN.{length, take}
 use lib.Dec.{eqb, leb}
@@ -13,7 +12,7 @@ use Rattle.kinds.specs.Lent.{Lent, Host}
 use Rattle.kinds.specs.Held.{Side}
 use Rattle.kinds.specs.Layout.{view, side}
 use Rattle.calls.specs.Size.{varsInRange, levelsSized, hostSized}
-use Rattle.calls.specs.HostPasses.{atMostAt, levelsInRange, trailInRange, levelInRange, valuesInRange, kindsInRange, sidePasses}
+use Rattle.calls.specs.HostPasses.{atMostAt, levelsInRange, trailInRange, valuesInRange, kindsInRange, sidePasses}
 use Rattle.judge_host.specs.Sides.{sideOf, SideSized}
 
 -- the host's side as `side_pass` sees it

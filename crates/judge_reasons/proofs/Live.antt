@@ -4,16 +4,16 @@ use mathlib.Core.Bool.{Bool, true, false, not, _&&_, _||_}
 use mathlib.Core.Logic.{_⊎_}
 use mathlib.Core.List.{List, []}
 use denote.Enum.Declared.{tagOf}
-use Prim.Native.Nat.{ℕ, _+_, _-_, _*_, _≤_, _<_}
+use Prim.Native.Nat.{ℕ, _+_, _-_, _≤_, _<_}
 use native.Mathlib.Omega.{arith}
 use lib.ListN.{length, take}
-use lib.Dec.{eqb, leb}
-use borrow.Author.Tests.{eqb-true, eq-eqb, ne-eqb, leb-true, not-true, not-false}
+use lib.Dec.{eqb}
+use borrow.Author.Tests.{eqb-true, eq-eqb, ne-eqb, not-true, not-false}
 use Rattle.laws.specs.Fold.{allBelow}
 use Rattle.laws.specs.Lists.{at}
 use Rattle.laws.proofs.Folds.{and-left, and-right, and-fails-left, and-fails-right, all-at, all-same, any-find}
-use Rattle.kinds.specs.Clauses.{lenAt, firstAt, endAt, isLive, deletedAt, varOf}
-use Rattle.kinds.specs.Held.{Held, Side, isFalse, nodeAt, kindOf, reasonWord}
+use Rattle.kinds.specs.Clauses.{lenAt, firstAt, endAt, isLive, varOf}
+use Rattle.kinds.specs.Held.{Held, isFalse, nodeAt, kindOf, reasonWord}
 use Rattle.kinds.specs.Numbers.{reasonOf}
 use Rattle.kinds.specs.declared.ClauseRef.{ClauseRef}
 use Rattle.kinds.specs.declared.Reason.the-variants.{Long}

@@ -1,17 +1,17 @@
 -- Where the row of a code lies in the buffer. Assumes nothing.
 use mathlib.Core.Path.{_≡_, refl, sym, ap, _∙_}
 use mathlib.Core.List.{List, [], _∷_}
-use Prim.Native.Nat.{ℕ, zero, suc, _+_, _*_, _/_, _^_, _≤_, _<_}
+use Prim.Native.Nat.{ℕ, zero, suc, _+_, _-_, _*_, _^_, _≤_, _<_}
 use native.Mathlib.Omega.{arith}
 use native.Mathlib.Nat.{zero-mul, suc-mul, mul-le-mul-right, mul-div-le, le-of-suc-le-suc, not-suc-le-zero}
-use lib.ListN.{length, getD, take, drop, length-drop}
+use lib.ListN.{length, take, drop, length-drop}
 use lib.Seq.{drop-drop, getD-take, getD-drop, length-take-le}
-use Rattle.laws.specs.Fold.{sumBelow}
+use Rattle.laws.specs.Fold.{countBelow, sumBelow}
 use Rattle.laws.specs.Lists.{at, listAt}
 use Rattle.laws.proofs.Totals.{sum-le, sum-next}
 use Rattle.kinds.specs.Lent.{roomOf}
 use Rattle.kinds.specs.Layout.{rowsOf}
-use Rattle.calls.specs.StorePasses.{rowLength}
+use Rattle.calls.specs.StorePasses.{standsAt, timesIn, rowLength}
 use Rattle.judge_rows.specs.Rows.{rowsIn, RowsSized}
 
 -- "a row of literals per code in one buffer": row c begins behind c rooms
@@ -41,6 +41,20 @@ module _ (v : ℕ) (rows counts : List ℕ) (z : RowsSized v rows counts) (c : �
 
     pub entry-is : at rows (c * roomOf v rows + k) ≡ at (listAt (rowsIn v rows counts .rows) c) k
     entry-is = sym (ap (λ (l : List ℕ). at l k) row-is ∙ getD-take (at counts c) (drop (c * roomOf v rows) rows) k 0 (omega (arith, length-is)) ∙ getD-drop (c * roomOf v rows) rows k 0)
+
+-- the part of the buffer that holds the row of the code c
+module _ (v : ℕ) (rows counts : List ℕ) (z : RowsSized v rows counts) (c : ℕ) (h : c < 2 * v) (len : ℕ) (e : len ≡ rowLength (rowsIn v rows counts) c) where
+  pub part-ends : c * roomOf v rows + len ≤ length rows
+  part-ends = omega (arith, row-ends v rows counts z c h, length-is v rows counts z c h, z .fits c h)
+
+  pub times-is : (x : ℕ) {r : ℕ}
+      → r ≡ countBelow (standsAt (take (c * roomOf v rows + len - c * roomOf v rows) (drop (c * roomOf v rows) rows)) x) (length (take (c * roomOf v rows + len - c * roomOf v rows) (drop (c * roomOf v rows) rows)))
+      → r ≡ timesIn (rowsIn v rows counts) c x
+  unfolding timesIn
+  times-is x p =
+      let d : c * roomOf v rows + len - c * roomOf v rows ≡ at counts c = omega (arith, length-is v rows counts z c h) in
+      let same = ap (λ (n : ℕ). take n (drop (c * roomOf v rows) rows)) d ∙ sym (row-is v rows counts z c h) in
+      p ∙ ap (λ (l : List ℕ). countBelow (standsAt l x) (length l)) same
 
 -- all rows lie in the buffer
 module _ (v : ℕ) (rows counts : List ℕ) (z : RowsSized v rows counts) where

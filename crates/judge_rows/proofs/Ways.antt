@@ -5,17 +5,16 @@ use mathlib.Core.List.{List}
 use Prim.Native.Nat.{ℕ, _+_, _*_, _/_, _≤_, _<_}
 use native.Mathlib.Omega.{arith}
 use lib.ListN.{length}
-use lib.Dec.{eqb, ltb, leb}
+use lib.Dec.{eqb}
 use borrow.Author.Tests.{lt-ltb, le-ltb, eq-eqb, ne-eqb, not-true, not-false}
-use Rattle.laws.specs.Fold.{allBelow, countBelow, sumBelow}
+use Rattle.laws.specs.Fold.{countBelow, sumBelow}
 use Rattle.laws.specs.Lists.{at, listAt}
 use Rattle.laws.proofs.Folds.{and-fails-left, and-fails-right, all-same}
 use Rattle.laws.proofs.Sums.{sum-same}
 use Rattle.laws.proofs.Totals.{count-yes, count-no}
-use Rattle.kinds.specs.Clauses.{neg}
 use Rattle.kinds.specs.Held.{Held}
 use Rattle.calls.specs.StorePasses.{standsAt, rowEntryOk, rowInRange, rowsInRange, timesIn, symmetricAt, symmetricWith, rowsSymmetric, rowLength, binaryOk, rowsPass}
-use Rattle.judge_rows.specs.Rows.{holding, entryEven}
+use Rattle.judge_rows.specs.Rows.{holding}
 
 module _ (h : Held) (c k b : ℕ) (e : b ≡ at (listAt (h .rows) c) k) where
   pub range-no : 2 * h .vars ≤ b → false ≡ rowEntryOk h c k
@@ -25,10 +24,6 @@ module _ (h : Held) (c k b : ℕ) (e : b ≡ at (listAt (h .rows) c) k) where
   pub range-test : b < 2 * h .vars → not (eqb (b / 2) (c / 2)) ≡ rowEntryOk h c k
   unfolding rowEntryOk
   range-test q = simp (← e, lt-ltb b (2 * h .vars) q)
-
-  pub even-test : {x y : ℕ} → x ≡ timesIn h c b → y ≡ timesIn h (neg b) (neg c) → eqb x y ≡ entryEven h c k
-  unfolding entryEven
-  even-test p q = simp (p, q, ← e)
 
 -- the count of x, up to entry k of a row and with it
 module _ (row : List ℕ) (k b : ℕ) (e : b ≡ at row k) (x : ℕ) {n m : ℕ} (p : n ≡ countBelow (standsAt row x) k) where

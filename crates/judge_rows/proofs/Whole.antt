@@ -1,16 +1,15 @@
 -- The judging of the rows, for what is lent. Assumes nothing.
-use mathlib.Core.Path.{_≡_, refl, sym, _∙_}
-use mathlib.Core.Bool.{Bool, true, _&&_}
-use Prim.Native.Nat.{ℕ, _*_, _^_, _≤_, _<_}
+use mathlib.Core.Path.{_≡_, sym, _∙_}
+use mathlib.Core.Bool.{Bool, true}
+use Prim.Native.Nat.{_*_, _^_}
 use lib.ListN.{length}
 use lib.Dec.{eqb, leb}
 use borrow.Author.Tests.{leb-true, eqb-true}
-use Rattle.laws.specs.Fold.{allBelow}
 use Rattle.laws.specs.Lists.{at}
 use Rattle.laws.proofs.Folds.{and-left, and-right, all-at}
 use Rattle.kinds.specs.Lent.{Lent, roomOf}
 use Rattle.kinds.specs.Held.{withBinary}
-use Rattle.kinds.specs.Layout.{rowsOf, view}
+use Rattle.kinds.specs.Layout.{view}
 use Rattle.calls.specs.Size.{varsInRange, rowSized, rowsSized}
 use Rattle.calls.specs.StorePasses.{rowsPass}
 use Rattle.judge_rows.specs.Rows.{rowsIn, RowsSized}

@@ -5,7 +5,6 @@ use mathlib.Core.List.{List, []}
 use Prim.Native.Nat.{ℕ, _*_, _^_, _≤_, _<_}
 use lib.ListN.{length}
 use lib.Dec.{eqb}
-use Rattle.laws.specs.Fold.{allBelow}
 use Rattle.laws.specs.Lists.{at, listAt}
 use Rattle.kinds.specs.Clauses.{neg}
 use Rattle.kinds.specs.Floats.{unity}
@@ -39,6 +38,3 @@ unfoldable pub entryEven : Held → ℕ → ℕ → Bool
 entryEven h c k =
     let b = at (listAt (h .rows) c) k in
     eqb (timesIn h c b) (timesIn h (neg b) (neg c))
-
-unfoldable pub rowEven : Held → ℕ → Bool
-rowEven h c = allBelow (entryEven h c) (length (listAt (h .rows) c))

@@ -1,11 +1,9 @@
 -- The rows' sizes. Assumes nothing.
-use mathlib.Core.Path.{_≡_, refl, sym, _∙_}
-use mathlib.Core.Bool.{Bool, true, false, _&&_}
-use mathlib.Core.List.{List}
-use Prim.Native.Nat.{ℕ, _*_, _/_, _%_, _^_, _≤_, _<_}
+use mathlib.Core.Path.{_≡_, sym}
+use mathlib.Core.Bool.{Bool, true, false}
+use Prim.Native.Nat.{ℕ, _*_, _^_, _≤_, _<_}
 use native.Mathlib.Omega.{arith}
 use lib.ListN.{length}
-use lib.Dec.{eqb, leb}
 use borrow.Author.Tests.{lt-leb, le-leb, eq-eqb, ne-eqb}
 use Rattle.laws.specs.Fold.{allBelow}
 use Rattle.laws.specs.Lists.{at}

@@ -14,3 +14,4 @@ pub mod Sums
 pub mod Tests
 pub mod Totals
 pub mod Loops
+pub mod Values

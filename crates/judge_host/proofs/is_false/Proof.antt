@@ -1,5 +1,4 @@
 use Rattle.judge_host.proofs.Literals.{false-told, not-false-told, beyond}
-use native.Mathlib.Omega.{arith}
 use borrow.Author.Needs.{needs}
 use Rattle.judge_host.proofs.is_false.Statement.{statement}
 use Rattle.judge_host.proofs.is_false.Tie as tie

@@ -1,5 +1,4 @@
 use Rattle.judge_host.proofs.Literals.{standing-is}
-use native.Mathlib.Omega.{arith}
 use borrow.Author.Needs.{needs}
 use Rattle.judge_host.proofs.is_standing.Statement.{statement}
 use Rattle.judge_host.proofs.is_standing.Tie as tie

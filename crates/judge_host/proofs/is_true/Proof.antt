@@ -1,5 +1,4 @@
 use Rattle.judge_host.proofs.Literals.{true-told, not-true-told}
-use native.Mathlib.Omega.{arith}
 use borrow.Author.Needs.{needs}
 use Rattle.judge_host.proofs.is_true.Statement.{statement}
 use Rattle.judge_host.proofs.is_true.Tie as tie

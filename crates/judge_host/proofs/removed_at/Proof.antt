@@ -1,5 +1,4 @@
 use Rattle.judge_host.proofs.Ways.{unassigned, on-trail, off-trail}
-use native.Mathlib.Omega.{arith}
 use borrow.Author.Needs.{needs}
 use Rattle.judge_host.proofs.removed_at.Statement.{statement}
 use Rattle.judge_host.proofs.removed_at.Tie as tie

@@ -1,6 +1,5 @@
 use mathlib.Core.Path.{sym}
 use lib.Seq.{length-take-le}
-use native.Mathlib.Omega.{arith}
 use borrow.Author.Needs.{needs}
 use Rattle.judge_host.proofs.side_pass.Statement.{statement}
 use Rattle.judge_host.proofs.side_pass.Tie as tie

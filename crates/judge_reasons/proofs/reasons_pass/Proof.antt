@@ -2,7 +2,6 @@ use mathlib.Core.Path.{sym}
 use lib.Seq.{length-take-le}
 use Rattle.calls.specs.HostPasses.{trailInRange}
 use Rattle.judge_host.proofs.Trail.{coded}
-use native.Mathlib.Omega.{arith}
 use borrow.Author.Needs.{needs}
 use Rattle.judge_reasons.proofs.reasons_pass.Statement.{statement}
 use Rattle.judge_reasons.proofs.reasons_pass.Tie as tie

@@ -1,5 +1,4 @@
 use Rattle.judge_rows.proofs.Ways.{range-no, range-test}
-use native.Mathlib.Omega.{arith}
 use borrow.Author.Needs.{needs}
 use Rattle.judge_rows.proofs.entry_in_range.Statement.{statement}
 use Rattle.judge_rows.proofs.entry_in_range.Tie as tie

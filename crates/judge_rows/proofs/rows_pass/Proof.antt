@@ -1,7 +1,6 @@
 use mathlib.Core.Path.{sym, _∙_}
 use borrow.Author.Tests.{not-false}
 use Rattle.judge_rows.proofs.Ways.{pass-range, pass-symmetric, pass-test, pass-many}
-use native.Mathlib.Omega.{arith}
 use borrow.Author.Needs.{needs}
 use Rattle.judge_rows.proofs.rows_pass.Statement.{statement}
 use Rattle.judge_rows.proofs.rows_pass.Tie as tie

@@ -1,67 +1,54 @@
-use mathlib.Core.Path.{_≡_, refl, sym}
-use Prim.Native.Nat.{_≤_, _-_}
-use Rattle.laws.specs.Fold.{countBelow}
-use Rattle.laws.specs.Lists.{listAt}
-use Rattle.laws.proofs.Folds.{count-none}
-use Rattle.laws.proofs.Totals.{count-end}
-use Rattle.calls.specs.StorePasses.{standsAt, timesIn, rowLength}
-use Rattle.judge_rows.specs.Rows.{rowsIn}
-use Rattle.judge_rows.proofs.Ways.{times-yes, times-no}
+use Rattle.judge_rows.proofs.Places.{part-ends, times-is}
 use native.Mathlib.Omega.{arith}
 use borrow.Author.Needs.{needs}
 use Rattle.judge_rows.proofs.times_in.Statement.{statement}
 use Rattle.judge_rows.proofs.times_in.Tie as tie
 
-abbrev Inv-loop : tie.InvT-loop
-Inv-loop vars rows counts c x len times₀ k₀ times k = (k ≤ len) × (times ≤ k) × (times ≡ countBelow (standsAt (listAt (rowsIn vars rows counts .rows) c) x) k)
-
-abbrev μ-loop : tie.MeasureT-loop
-μ-loop vars rows counts c x len times₀ k₀ times k = len - k
-
-row-length-requires : tie.Need-row-length-requires Inv-loop μ-loop
+row-length-requires : tie.Need-row-length-requires
 row-length-requires c κs = search needs
 
-loop-holds : tie.Need-loop-holds Inv-loop μ-loop
-loop-holds c = (search needs, search needs, sym (count-none _))
+mul-start : tie.Need-mul-start
+mul-start c = search needs
 
-row-entry-requires : tie.Need-row-entry-requires Inv-loop μ-loop
-row-entry-requires c κs = let s = c .before .before .before .before .before in (s .pre .0, s .pre .1, omega arith)
+div-start : tie.Need-div-start
+div-start c = search needs
 
-add-k : tie.Need-add-k Inv-loop μ-loop
-add-k c = search needs
+mul-start-2 : tie.Need-mul-start-2
+mul-start-2 c = let s = c .before .before .before in omega (arith, part-ends _ _ _ (s .pre .0) (s .args .c) (s .pre .1) _ (c .row-length .ensures .0))
 
-add-times : tie.Need-add-times Inv-loop μ-loop
-add-times c = search needs
+add-end : tie.Need-add-end
+add-end c = let s = c .before .before .before in omega (arith, part-ends _ _ _ (s .pre .0) (s .args .c) (s .pre .1) _ (c .row-length .ensures .0))
 
-loop-less : tie.Need-loop-less Inv-loop μ-loop
-loop-less c = search needs
+mul-occurs : tie.Need-mul-occurs
+mul-occurs c = let s = c .before .before .before in omega (arith, part-ends _ _ _ (s .pre .0) (s .args .c) (s .pre .1) _ (c .row-length .ensures .0), s .pre .0 .small)
 
-loop-again : tie.Need-loop-again Inv-loop μ-loop
-loop-again c = (omega arith, omega arith, times-yes _ _ _ (c .before .row-entry .ensures .0) _ (c .before .before .before .loop .inv .2) refl (c .if1 .taken))
+sub-occurs : tie.Need-sub-occurs
+sub-occurs c = search needs
 
-loop-less-2 : tie.Need-loop-less-2 Inv-loop μ-loop
-loop-less-2 c = search needs
+part-occurs-start : tie.Need-part-occurs-start
+part-occurs-start c = search needs
 
-loop-again-2 : tie.Need-loop-again-2 Inv-loop μ-loop
-loop-again-2 c = (omega arith, omega arith, times-no _ _ _ (c .before .row-entry .ensures .0) _ (c .before .before .before .loop .inv .2) refl (c .if1 .left))
+part-occurs-end : tie.Need-part-occurs-end
+part-occurs-end c = let s = c .before .before .before in part-ends _ _ _ (s .pre .0) (s .args .c) (s .pre .1) _ (c .row-length .ensures .0)
 
-returns : tie.Need-returns Inv-loop μ-loop
-unfolding timesIn rowLength
-returns c = count-end _ _ _ (c .before .loop .inv .2) (omega (arith, c .before .before .row-length .ensures .0)) (omega (arith, c .before .before .row-length .ensures .0))
+occurs-requires : tie.Need-occurs-requires
+occurs-requires c κs = search needs
+
+returns : tie.Need-returns
+returns c = let s = c .before .before .before .before .before in times-is _ _ _ (s .pre .0) (s .args .c) (s .pre .1) _ (c .before .before .row-length .ensures .0) _ (c .occurs .ensures)
 
 pub times-in-spec : {M : Type 1} → statement M
 times-in-spec =
     tie.close
     (tie.spec
-    Inv-loop
-    μ-loop
     row-length-requires
-    loop-holds
-    row-entry-requires
-    add-k
-    add-times
-    loop-less
-    loop-again
-    loop-less-2
-    loop-again-2
+    mul-start
+    div-start
+    mul-start-2
+    add-end
+    mul-occurs
+    sub-occurs
+    part-occurs-start
+    part-occurs-end
+    occurs-requires
     returns)

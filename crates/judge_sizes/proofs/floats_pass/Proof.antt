@@ -1,5 +1,4 @@
 use Rattle.judge_sizes.proofs.Floating.{bump-out, inverse-low, inverse-left}
-use native.Mathlib.Omega.{arith}
 use borrow.Author.Needs.{needs}
 use Rattle.judge_sizes.proofs.floats_pass.Statement.{statement}
 use Rattle.judge_sizes.proofs.floats_pass.Tie as tie

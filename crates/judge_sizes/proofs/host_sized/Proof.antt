@@ -2,8 +2,6 @@ use mathlib.Core.Path.{refl}
 use borrow.Author.Tests.{ne-eqb, eq-eqb, lt-leb, le-leb}
 use Rattle.laws.proofs.Loops.{and-cut, and-on}
 use Rattle.calls.specs.Size.{hostSized}
-use native.Mathlib.Omega.{arith}
-use borrow.Author.Needs.{needs}
 use Rattle.judge_sizes.proofs.host_sized.Statement.{statement}
 use Rattle.judge_sizes.proofs.host_sized.Tie as tie
 

@@ -2,8 +2,6 @@ use borrow.Author.Tests.{lt-leb, le-leb}
 use mathlib.Core.Path.{refl}
 use Rattle.laws.proofs.Loops.{and-cut, and-on}
 use Rattle.calls.specs.Size.{sized}
-use native.Mathlib.Omega.{arith}
-use borrow.Author.Needs.{needs}
 use Rattle.judge_sizes.proofs.is_sized.Statement.{statement}
 use Rattle.judge_sizes.proofs.is_sized.Tie as tie
 

@@ -1,7 +1,5 @@
 use mathlib.Core.Path.{refl}
 use Rattle.calls.specs.Size.{levelsSized}
-use native.Mathlib.Omega.{arith}
-use borrow.Author.Needs.{needs}
 use Rattle.judge_sizes.proofs.levels_sized.Statement.{statement}
 use Rattle.judge_sizes.proofs.levels_sized.Tie as tie
 

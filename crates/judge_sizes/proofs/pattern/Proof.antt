@@ -1,5 +1,5 @@
 -- `activity::pattern` meets its contract: a value that differs from itself is a NaN, and any other has its own pattern. Assumes nothing.
-use mathlib.Core.Path.{_≡_, refl, sym, ap, subst, _∙_}
+use mathlib.Core.Path.{_≡_, sym, ap, subst, _∙_}
 use mathlib.Core.Bool.{false, not, false≢true}
 use lib.Dec.{T}
 use lib.Ieee.{Float, nan, inf, fin, binary32, isNan, ne, toBits}

@@ -1,5 +1,4 @@
 use Rattle.calls.specs.Size.{recordSized}
-use native.Mathlib.Omega.{arith}
 use borrow.Author.Needs.{needs}
 use Rattle.judge_sizes.proofs.record_sized.Statement.{statement}
 use Rattle.judge_sizes.proofs.record_sized.Tie as tie

@@ -2,8 +2,6 @@ use mathlib.Core.Path.{refl, sym, _∙_}
 use borrow.Author.Tests.{lt-leb, le-leb}
 use Rattle.laws.proofs.Loops.{and-cut, and-on}
 use Rattle.judge_sizes.proofs.Tiers.{four-at-most}
-use native.Mathlib.Omega.{arith}
-use borrow.Author.Needs.{needs}
 use Rattle.judge_sizes.proofs.tiers_at_most.Statement.{statement}
 use Rattle.judge_sizes.proofs.tiers_at_most.Tie as tie
 

@@ -2,7 +2,6 @@ use mathlib.Core.Path.{sym, _∙_}
 use Rattle.laws.proofs.Loops.{and-cut, and-on}
 use Rattle.laws.proofs.Tests.{passed, failed}
 use Rattle.judge_sizes.proofs.Tiers.{four-sized}
-use native.Mathlib.Omega.{arith}
 use borrow.Author.Needs.{needs}
 use Rattle.judge_sizes.proofs.tiers_sized.Statement.{statement}
 use Rattle.judge_sizes.proofs.tiers_sized.Tie as tie

@@ -1,7 +1,6 @@
 use Rattle.laws.proofs.Loops.{and-cut, and-on}
 use Rattle.laws.proofs.Tests.{passed, failed}
 use Rattle.calls.specs.Size.{wordsSized}
-use native.Mathlib.Omega.{arith}
 use borrow.Author.Needs.{needs}
 use Rattle.judge_sizes.proofs.words_sized.Statement.{statement}
 use Rattle.judge_sizes.proofs.words_sized.Tie as tie
