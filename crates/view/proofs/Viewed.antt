@@ -11,6 +11,7 @@ use Rattle.laws.specs.Fold.{one}
 use Rattle.laws.specs.Lists.{at}
 use Rattle.kinds.specs.Header.{field, tierOf, deletedOf, markOf, glueOf, activeOf}
 use Rattle.kinds.specs.Numbers.{tierNumber}
+use Rattle.kinds.specs.declared.Place.{Place}
 use Rattle.kinds.specs.declared.Tier.{Tier}
 use Rattle.kinds.specs.Lent.{Lent}
 use Rattle.kinds.specs.Layout.{view, side, lay, layState, layHost, fit}
@@ -21,9 +22,18 @@ use Rattle.calls.specs.HostPasses.{hostPasses}
 use Rattle.calls.specs.Refusing.{lowest, own}
 use Rattle.calls.specs.Viewing.{Fields, headerWord, fieldsOf, hasLiteral, literalAt}
 use Rattle.calls.specs.Outcome.{judged, refusedFor, hasRoom, step, answer, done, refused, accepted, nothing, fields, literal}
+use Rattle.calls.specs.Answers.{placeNumber, placeAnswer}
 use Rattle.calls.proofs.Laws.{own-refuses, accepts}
 use Rattle.header.proofs.Laws.{field-lt}
 use Rattle.view.specs.Shown.{shown, fieldsFrom}
+use Rattle.view.specs.declared.HeaderFields.{HeaderFields}
+
+-- what the contracts ensure of a view's fields, and of its answer at a place
+abbrev pub ShowsFields : List ℕ → HeaderFields → Type 0
+ShowsFields ws r = (k : Lent) → record { number = 0; answer = fields (shown r); then = k } ≡ done (viewFields ws) k
+
+abbrev pub ShowsPlace : List ℕ → ℕ → Place → Type 0
+ShowsPlace ws i r = (k : Lent) → record { number = placeNumber r; answer = placeAnswer r; then = k } ≡ done (viewLiteral ws i) k
 
 -- a field of one digit
 one-of : (n : ℕ) → n < 2 → one (eqb n 1) ≡ n

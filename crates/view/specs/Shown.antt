@@ -3,10 +3,10 @@ use Prim.Native.Nat.{ℕ}
 use Rattle.laws.specs.Fold.{one}
 use Rattle.kinds.specs.Header.{tierOf, deletedOf, markOf, glueOf, activeOf}
 use Rattle.kinds.specs.Numbers.{tierNumber}
-use Rattle.calls.specs.Viewing.{Fields as Shown}
-use Rattle.view.specs.declared.Fields.{Fields}
+use Rattle.calls.specs.Viewing.{Fields}
+use Rattle.view.specs.declared.HeaderFields.{HeaderFields}
 
-abbrev pub shown : Fields → Shown
+abbrev pub shown : HeaderFields → Fields
 shown f = record {
   activity = f .activity;
   tier = tierNumber (f .tier);
@@ -18,7 +18,7 @@ shown f = record {
 }
 
 -- the fields of three header words
-abbrev pub fieldsFrom : ℕ → ℕ → ℕ → Shown
+abbrev pub fieldsFrom : ℕ → ℕ → ℕ → Fields
 fieldsFrom activity word len = record {
   activity = activity;
   tier = tierOf word;

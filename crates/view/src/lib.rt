@@ -10,7 +10,7 @@ use kinds::Place;
 use kinds::Tier;
 
 // The header fields of a clause. The activity goes as its bits, since a slice may hold any.
-pub struct Fields {
+pub struct HeaderFields {
     pub activity: u32,
     pub tier: Tier,
     pub deleted: bool,
@@ -22,7 +22,7 @@ pub struct Fields {
 
 // ---- on the slice and the place
 
-fn fields_from(activity: u32, word: u32, len: u32) -> Fields
+fn fields_from(activity: u32, word: u32, len: u32) -> HeaderFields
     ensures { λ r. ⌜ shown r ≡ fieldsFrom activity word len ⌝ }
 {
     let number = header::tier_of(word);
@@ -31,7 +31,7 @@ fn fields_from(activity: u32, word: u32, len: u32) -> Fields
     let mark = header::mark_of(word);
     let glue = header::glue_of(word);
     let active = header::active_of(word);
-    Fields {
+    HeaderFields {
         activity: activity,
         tier: tier,
         deleted: deleted,
@@ -43,7 +43,7 @@ fn fields_from(activity: u32, word: u32, len: u32) -> Fields
 }
 
 // "Over fewer than three words it shows every field 0 and no literal." The view is lent nothing: k is what other calls are lent, and stays.
-pub fn fields_at(words: &[u32]) -> Fields
+pub fn fields_at(words: &[u32]) -> HeaderFields
     ensures { λ r. ⌜ ((k : Lent) → record { number = 0; answer = fields (shown r); then = k } ≡ done (viewFields (now (words .entry))) k) ⌝ }
 {
     if words.len() < 3 {
@@ -69,4 +69,49 @@ pub fn literal_at(words: &[u32], place: usize) -> Place
     }
     let code = words[3 + place];
     Place::Holds(Lit(code))
+}
+
+// ---- the view: "a struct holding the slice, thin, after the core"
+
+// "A clause view holds the slice from a clause's word 0 to its end"
+pub struct Clause<'a> {
+    pub words: &'a [u32],
+}
+
+pub fn view<'a>(words: &'a [u32]) -> Clause<'a>
+    ensures { λ r. ⌜ r .words ≡ words .entry ⌝ }
+{
+    Clause { words }
+}
+
+pub fn words<'a>(clause: Clause<'a>) -> &'a [u32]
+    ensures { λ r. ⌜ r ≡ clause .entry .words ⌝ }
+{
+    clause.words
+}
+
+pub fn fields<'a>(clause: Clause<'a>) -> HeaderFields
+    ensures { λ r. ⌜ ((k : Lent) → record { number = 0; answer = fields (shown r); then = k } ≡ done (viewFields (now (clause .entry .words))) k) ⌝ }
+{
+    fields_at(clause.words)
+}
+
+pub fn literal<'a>(clause: Clause<'a>, place: usize) -> Place
+    ensures { λ r. ⌜ ((k : Lent) → record { number = placeNumber r; answer = placeAnswer r; then = k } ≡ done (viewLiteral (now (clause .entry .words)) place) k) ⌝ }
+{
+    literal_at(clause.words, place)
+}
+
+// ---- with plain parameters, for callers that hold no view
+
+pub fn view_fields(words: &[u32]) -> HeaderFields
+    ensures { λ r. ⌜ ((k : Lent) → record { number = 0; answer = fields (shown r); then = k } ≡ done (viewFields (now (words .entry))) k) ⌝ }
+{
+    fields(view(words))
+}
+
+pub fn view_literal(words: &[u32], place: usize) -> Place
+    ensures { λ r. ⌜ ((k : Lent) → record { number = placeNumber r; answer = placeAnswer r; then = k } ≡ done (viewLiteral (now (words .entry)) place) k) ⌝ }
+{
+    literal(view(words), place)
 }
