@@ -14,17 +14,16 @@ use prog.Memory.{Memory}
 use prog.Routine.{Routine}
 use prog.Wp.{Heap, Calls, Loops, WpFn, Tables}
 use ghost.Atoms.{Atoms, sem}
-use contract.Lifetimes.{Lfts}
 use contract.Monad.{Fun, fact}
 use contract.Running.{givenOf, tables, tablesOf}
 use types.Kit.{Given, ‵, raw, _⊛_, ⋆, some, later, _$_, _∵_, !, qed, by, move, use1, use2, split, join, pick, fsplit, fjoin, suffices, frame, await, done}
 use types.Run.{look, init, forget, stop, from, load, and-then, no-more, land, returns, enter, alloc1, alloc0, params1, pass1, pass0, free1, free0}
 use sound.WpLaws.{FmC, fmOf, WpFn-mono}
-use denote.RattleType.{RattleType, owns}
+use denote.RattleType.{owns}
 use denote.Laws.{Is, shows}
 use denote.Builtin.{u32}
 use denote.Ref.{RefT, NamedLft, now}
-use denote.Signature.{plain, namedLft}
+use denote.Signature.{plain}
 use denote.Slice.{sliceVal, ShrSlice, slice-vals, shr-slice-tells, shr-slice-lawful, shr-slice-copy}
 use denote.Steps.{peeks, heard, nothing}
 use denote.Struct.Laws as LL
@@ -39,6 +38,7 @@ use denote.Triple.Clauses.{ensured, lasts}
 use Rattle.view.specs.declared.Clause.{Clause}
 use Rattle.view.specs.declared.HeaderFields.{HeaderFields}
 use Rattle.view.proofs.Viewed.{ShowsFields}
+use Rattle.view.proofs.Holding.{B}
 use Rattle.view.proofs.Clause as T
 use Rattle.view.proofs.Clause.Laws as T′
 use Rattle.view.proofs.HeaderFields as S
@@ -55,10 +55,6 @@ use Rattle.view.proofs.view_fields.Key.{name as #view·view-fields}
 use Rattle.view.proofs.view_fields as above
 use Rattle.view.proofs.view_fields.Statement as stated
 use Rattle.view.proofs.view_fields.Code as code
-
--- the struct's type, over the signature's lifetimes
-abbrev B : Lfts 1 → RattleType
-B κs = T.the-row (namedLft 1 0 tt κs)
 
 abbrev stayed : Stays (above.ended .signature .params) (above.ended .kept)
 stayed = (stay-none-slice (0 ∷ []) tt (plain (λ _. u32)) yes, tt)

@@ -14,18 +14,17 @@ use prog.Memory.{Memory}
 use prog.Routine.{Routine}
 use prog.Wp.{Heap, Calls, Loops, WpFn, Tables}
 use ghost.Atoms.{Atoms, sem}
-use contract.Lifetimes.{Lfts}
 use contract.Monad.{Fun, fact}
 use contract.Running.{givenOf, tables, tablesOf}
 use types.Kit.{Given, ‵, raw, _⊛_, ⋆, some, later, _$_, _∵_, !, qed, by, move, drop, use1, use2, split, join, pick, fsplit, fjoin, suffices, frame, await, done}
 use types.Run.{look, init, forget, stop, from, load, and-then, no-more, land, returns, enter, alloc1, alloc0, params1, pass1, pass0, free1, free0}
 use sound.WpLaws.{FmC, fmOf, WpFn-mono}
-use denote.RattleType.{RattleType, owns}
+use denote.RattleType.{owns}
 use denote.Laws.{Is, shows}
 use denote.Plain.{uint-vals, uint-tells, uint-makes}
 use denote.Builtin.{u32, usize}
 use denote.Ref.{RefT, NamedLft, now}
-use denote.Signature.{plain, namedLft}
+use denote.Signature.{plain}
 use denote.Slice.{sliceVal, ShrSlice, slice-vals, shr-slice-tells, shr-slice-lawful, shr-slice-copy}
 use denote.Steps.{owned, peeks, heard, nothing}
 use denote.Enum.Laws as EL
@@ -41,6 +40,7 @@ use denote.Triple.Clauses.{ensured, lasts}
 use Rattle.view.specs.declared.Clause.{Clause}
 use Rattle.kinds.specs.declared.Place.{Place}
 use Rattle.view.proofs.Viewed.{ShowsPlace}
+use Rattle.view.proofs.Holding.{B}
 use Rattle.view.proofs.Clause as T
 use Rattle.view.proofs.Clause.Laws as T′
 use Rattle.kinds.proofs.Place as S
@@ -57,10 +57,6 @@ use Rattle.view.proofs.view_literal.Key.{name as #view·view-literal}
 use Rattle.view.proofs.view_literal as above
 use Rattle.view.proofs.view_literal.Statement as stated
 use Rattle.view.proofs.view_literal.Code as code
-
--- the struct's type, over the signature's lifetimes
-abbrev B : Lfts 1 → RattleType
-B κs = T.the-row (namedLft 1 0 tt κs)
 
 abbrev stayed : Stays (above.ended .signature .params) (above.ended .kept)
 stayed = (stay-none-slice (0 ∷ []) tt (plain (λ _. u32)) yes, (stay-none (λ _. usize) yes, tt))
