@@ -2,7 +2,7 @@
 ghost use mathlib.Core.Path.{_≡_};
 ghost use Rattle.kinds.specs.Lent.{Lent};
 ghost use Rattle.calls.specs.Call.{viewFields, viewLiteral};
-ghost use Rattle.calls.specs.Outcome.{Outcome, accepted, done, fields};
+ghost use Rattle.calls.specs.Outcome.{done, fields};
 ghost use Rattle.calls.specs.Answers.{placeNumber, placeAnswer};
 ghost use Rattle.view.specs.Shown.{shown, fieldsFrom};
 use kinds::Lit;
@@ -105,13 +105,13 @@ pub fn literal<'a>(clause: Clause<'a>, place: usize) -> Place
 // ---- with plain parameters, for callers that hold no view
 
 pub fn view_fields(words: &[u32]) -> HeaderFields
-    ensures { λ r. ⌜ ((k : Lent) → record { number = 0; answer = fields (shown r); then = k } ≡ done (viewFields (now (words .entry))) k) ⌝ }
+    ensures { λ f. ⌜ ((k : Lent) → record { number = 0; answer = fields (shown f); then = k } ≡ done (viewFields (now (words .entry))) k) ⌝ }
 {
     fields(view(words))
 }
 
 pub fn view_literal(words: &[u32], place: usize) -> Place
-    ensures { λ r. ⌜ ((k : Lent) → record { number = placeNumber r; answer = placeAnswer r; then = k } ≡ done (viewLiteral (now (words .entry)) place) k) ⌝ }
+    ensures { λ p. ⌜ ((k : Lent) → record { number = placeNumber p; answer = placeAnswer p; then = k } ≡ done (viewLiteral (now (words .entry)) place) k) ⌝ }
 {
     literal(view(words), place)
 }
