@@ -71,7 +71,7 @@ module _ (k : Lent) where
   unfolding sizesOk
   sizes-levels = ap (λ (b : Bool). varsInRange (k .state .vars) && b) (and-true (levelsSized (k .state .vars) (k .host)))
 
-  -- ---- 2 and 3
+-- ---- 2 and 3
 
   pub store-list : storePasses wordsAndList (view k) ≡ listPasses (view k)
   unfolding storePasses listPasses
