@@ -1,7 +1,7 @@
 // Adding, tiers and deleting: db.rs. Each call judges what it is lent, then looks for its own refusals, then takes its step.
 ghost use mathlib.Core.Path.{_≡_};
 ghost use mathlib.Core.List.{[]};
-ghost use Prim.Native.Nat.{ℕ};
+ghost use Prim.Native.Nat.{ℕ, _≤_};
 ghost use Rattle.kinds.specs.Lent.{lent, lentFive, hostOf, noHost};
 ghost use Rattle.calls.specs.Call.{addClause, setTier, delete, fiveLists, fiveListsRecordHost};
 ghost use Rattle.calls.specs.Outcome.{judged, ownNumber, done, nothing};
