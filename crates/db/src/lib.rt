@@ -1,16 +1,20 @@
-// Adding a long clause: db.rs. The call judges what it is lent, then looks for its own refusals, then takes its step.
+// Adding a long clause and setting its tier: db.rs. Each call judges what it is lent, then looks for its own refusals, then takes its step.
 ghost use mathlib.Core.Path.{_≡_};
-ghost use mathlib.Core.Bool.{_||_};
+ghost use mathlib.Core.Bool.{not, _&&_, _||_};
 ghost use Prim.Native.Nat.{ℕ, _≤_, _<_};
 ghost use lib.ListN.{length};
+ghost use lib.Dec.{eqb};
+ghost use Rattle.kinds.specs.Clauses.{tierAt};
 ghost use Rattle.kinds.specs.Lent.{lentFive, noHost};
-ghost use Rattle.calls.specs.Call.{addClause, fiveLists};
+ghost use Rattle.calls.specs.Call.{addClause, setTier, fiveLists};
 ghost use Rattle.calls.specs.Refusing.{clauseWrong, tierWrong, glueWrong};
-ghost use Rattle.calls.specs.Outcome.{judged, hasRoom, done};
-ghost use Rattle.calls.specs.Answers.{addedNumber, addedAnswer};
+ghost use Rattle.calls.specs.Outcome.{judged, hasRoom, done, nothing};
+ghost use Rattle.calls.specs.Answers.{addedNumber, addedAnswer, plainNumber};
 use kinds::Added;
 use kinds::AddedReply;
 use kinds::ClauseRef;
+use kinds::Plain;
+use kinds::PlainReply;
 use kinds::Refusal;
 use kinds::State;
 
@@ -128,6 +132,101 @@ pub fn add_clause(
     );
     AddedReply {
         answer: Added::At(ClauseRef(offset)),
+        state: state,
+    }
+}
+
+// ---- setting a tier
+
+// 7: a tier change into or out of Irred; an equal tier is no change.
+fn irred_change(old: usize, tier: usize) -> bool
+    ensures { λ r. ⌜ r ≡ not (eqb old tier) && (eqb tier 0 || eqb old 0) ⌝ }
+{
+    if old == tier {
+        return false;
+    }
+    if tier == 0 {
+        return true;
+    }
+    old == 0
+}
+
+// 11: an equal tier needs no room, another one more entry of its list.
+fn tier_fits(
+    s: State,
+    words: &[u32],
+    clauses: &[u32],
+    irred: &[u32],
+    core: &[u32],
+    mid: &[u32],
+    local: &[u32],
+    cref: ClauseRef,
+    tier: usize,
+    old: usize,
+) -> bool
+    requires { ⌜ judged fiveLists (lentFive s (now words) (now clauses) (now irred) (now core) (now mid) (now local) noHost) ≡ 0 ⌝ }
+    requires { ⌜ (tier < 4) × (old ≡ tierAt (now words) (cref .0)) ⌝ }
+    ensures { λ r. ⌜ r ≡ hasRoom (setTier (cref .0) tier) (lentFive s (now (words .entry)) (now (clauses .entry)) (now (irred .entry)) (now (core .entry)) (now (mid .entry)) (now (local .entry)) noHost) ⌝ }
+{
+    if old == tier {
+        return true;
+    }
+    let lens = s.tiers;
+    let used = lens[tier];
+    used != tier_lists::room(irred.len(), core.len(), mid.len(), local.len(), tier)
+}
+
+// `set_clause_tier`.
+pub fn set_clause_tier(
+    s: State,
+    words: &mut [u32],
+    clauses: &mut [u32],
+    irred: &mut [u32],
+    core: &mut [u32],
+    mid: &mut [u32],
+    local: &mut [u32],
+    cref: ClauseRef,
+    tier: usize,
+) -> PlainReply
+    ensures { λ r. ⌜ record { number = plainNumber (r .answer); answer = nothing; then = lentFive (r .state) (now (words .exit)) (now (clauses .exit)) (now (irred .exit)) (now (core .exit)) (now (mid .exit)) (now (local .exit)) noHost }
+        ≡ done (setTier (cref .0) tier) (lentFive s (now (words .entry)) (now (clauses .entry)) (now (irred .entry)) (now (core .entry)) (now (mid .entry)) (now (local .entry)) noHost) ⌝ }
+{
+    let judging = judge::judge_five(s, words, clauses, irred, core, mid, local);
+    if judging != 0 {
+        return PlainReply {
+            answer: Plain::Refused(kinds::refusal_of(judging)),
+            state: s,
+        };
+    }
+    if 3 < tier {
+        return PlainReply {
+            answer: Plain::Refused(Refusal::Tier),
+            state: s,
+        };
+    }
+    let offset = cref.0 as usize;
+    if !judge_words::is_live(words, s.words, clauses, s.clauses, offset) {
+        return PlainReply {
+            answer: Plain::Refused(Refusal::Reference),
+            state: s,
+        };
+    }
+    let old = judge_words::tier_at(words, offset);
+    if irred_change(old, tier) {
+        return PlainReply {
+            answer: Plain::Refused(Refusal::Original),
+            state: s,
+        };
+    }
+    if !tier_fits(s, words, clauses, irred, core, mid, local, cref, tier, old) {
+        return PlainReply {
+            answer: Plain::Refused(Refusal::Room),
+            state: s,
+        };
+    }
+    let state = db_steps::change_tier(s, words, clauses, irred, core, mid, local, cref, tier);
+    PlainReply {
+        answer: Plain::Done,
         state: state,
     }
 }

@@ -40,11 +40,11 @@ pub record TierReady (s : State) (words clauses irred core mid local : List ℕ)
   pub count : at (s .counts) t ≤ 2 ^ 22
   pub listed : s .clauses ≤ length clauses
 
-set-same : (t o : ℕ) (h : Held) → tierAt (h .words) o ≡ t → tierSet t o h ≡ h
+pub set-same : (t o : ℕ) (h : Held) → tierAt (h .words) o ≡ t → tierSet t o h ≡ h
 unfolding tierSet
 set-same t o h e = ap (λ (b : Bool). cond b h (movedTo t o h)) (eq-eqb _ _ e)
 
-set-other : (t o : ℕ) (h : Held) → (tierAt (h .words) o ≡ t → ⊥) → tierSet t o h ≡ movedTo t o h
+pub set-other : (t o : ℕ) (h : Held) → (tierAt (h .words) o ≡ t → ⊥) → tierSet t o h ≡ movedTo t o h
 unfolding tierSet
 set-other t o h e = ap (λ (b : Bool). cond b h (movedTo t o h)) (ne-eqb _ _ e)
 
