@@ -1,0 +1,1 @@
+// Laws on the ways through a public call. No code.
