@@ -32,7 +32,7 @@ use Rattle.calls.proofs.Laws.{has-room as room-given}
 use Rattle.calls.proofs.Judged.{row-fits}
 use Rattle.calls.proofs.Readings.{Lits, lits-read}
 use Rattle.calls.proofs.Given.{first-not, clause-right}
-use Rattle.replies.proofs.Ways.{judged-most, judge-way, own-way, step-way, refusal-told}
+use Rattle.replies.proofs.Ways.{own-way, step-way, refusal-told}
 use Rattle.binary_calls.proofs.Rows.{RowsReady, rows-ready}
 
 -- ---- literals
@@ -216,17 +216,11 @@ module _ (s : State) (rows counts ls : List ℕ) where
 
   -- ---- the whole call
 
-  lends : parts (addBinary ls) ≡ onlyRows
+  pub lends : parts (addBinary ls) ≡ onlyRows
   unfolding parts
   lends = refl
 
   module _ (n : ℕ) (e : n ≡ judged onlyRows k) where
-    pub judge-number : (n ≡ 0 → ⊥) → (0 < n) × (n ≤ 12)
-    judge-number h = let t : n ≤ 3 = subst (λ (x : ℕ). x ≤ 3) (sym e) (judged-most onlyRows k) in (omega arith, omega arith)
-
-    pub add-judged : (n ≡ 0 → ⊥) → (r : Refusal) → refusalNumber r ≡ n → refused (refusalNumber r) k ≡ done (addBinary ls) k
-    add-judged h r q = refusal-told k r n q (judge-way (addBinary ls) onlyRows lends k n e h)
-
     pub add-refused : n ≡ 0 → (i : ℕ) → i ≡ ownNumber (addBinary ls) k → (i ≡ 0 → ⊥) → (r : Refusal) → refusalNumber r ≡ i → refused (refusalNumber r) k ≡ done (addBinary ls) k
     add-refused z i o h r q = refusal-told k r i q (own-way (addBinary ls) onlyRows lends k (sym e ∙ z) i o h)
 

@@ -10,22 +10,20 @@ use borrow.Author.Tests.{lt-ltb, le-ltb, le-leb}
 use Rattle.laws.specs.Fold.{allBelow}
 use Rattle.laws.specs.Lists.{at, listAt}
 use Rattle.laws.proofs.Folds.{all-of, and-both}
-use Rattle.kinds.specs.Numbers.{refusalNumber}
 use Rattle.kinds.specs.Lent.{Lent, lentRows, roomOf}
 use Rattle.kinds.specs.Layout.{rowsOf, view, lay, fit, fitRow}
 use Rattle.kinds.specs.declared.State.{State}
-use Rattle.kinds.specs.declared.Refusal.{Refusal}
 use Rattle.calls.specs.Call.{Command, implied, parts, onlyRows}
 use Rattle.calls.specs.Refusing.{lowest, own, literalWrong}
 use Rattle.calls.specs.Outcome.{Outcome, judged, refusedFor, hasRoom, ownNumber, orElse, step, answer, part, partOf, refused, accepted, done}
-use Rattle.replies.proofs.Ways.{judged-most, judge-way, own-way, step-way, number-told, part-none, part-told}
+use Rattle.replies.proofs.Ways.{own-way, step-way, part-none, part-told}
 use Rattle.binary_calls.proofs.Rows.{RowsReady, rows-ready, row-length}
 
 module _ (s : State) (rows counts : List ℕ) (l : ℕ) where
   abbrev k : Lent
   k = lentRows s rows counts
 
-  lends : parts (implied l) ≡ onlyRows
+  pub lends : parts (implied l) ≡ onlyRows
   unfolding parts
   lends = refl
 
@@ -57,22 +55,13 @@ module _ (s : State) (rows counts : List ℕ) (l : ℕ) where
 
   -- n: what the judging gave
   module _ (n : ℕ) (e : n ≡ judged onlyRows k) where
-    judge-refused : (n ≡ 0 → ⊥) → done (implied l) k ≡ refused n k
-    judge-refused h = judge-way (implied l) onlyRows lends k n e h
-
     literal-refused : n ≡ 0 → 2 * s .vars ≤ l → done (implied l) k ≡ refused 4 k
     literal-refused z h = own-way (implied l) onlyRows lends k (sym e ∙ z) 4 (own-four h) (λ q. omega arith)
 
     read : n ≡ 0 → l < 2 * s .vars → done (implied l) k ≡ accepted (answer (implied l) (view k)) (lay onlyRows k (step (implied l) (view k)))
     read z h = step-way (implied l) onlyRows lends k (sym e ∙ z) (own-none (sym e ∙ z) h)
 
-    pub refusal-number : (n ≡ 0 → ⊥) → (0 < n) × (n ≤ 12)
-    refusal-number h = let t : n ≤ 3 = subst (λ (x : ℕ). x ≤ 3) (sym e) (judged-most onlyRows k) in (omega arith, omega arith)
-
     -- the part
-    pub part-judged : (n ≡ 0 → ⊥) → [] ≡ partOf (done (implied l) k .answer)
-    part-judged h = part-none k n (judge-refused h)
-
     pub part-wrong : n ≡ 0 → 2 * s .vars ≤ l → [] ≡ partOf (done (implied l) k .answer)
     part-wrong z h = part-none k 4 (literal-refused z h)
 
@@ -84,9 +73,6 @@ module _ (s : State) (rows counts : List ℕ) (l : ℕ) where
     part-read z h x q = q ∙ ap partOf (sym answered) ∙ part-told (lay onlyRows k (step (implied l) (view k))) (answer (implied l) (view k)) (read z h)
 
     -- the number beside it
-    pub number-judged : (n ≡ 0 → ⊥) → (r : Refusal) → refusalNumber r ≡ n → refusalNumber r ≡ done (implied l) k .number
-    number-judged h r q = number-told k r n q (judge-refused h)
-
     pub number-wrong : n ≡ 0 → 2 * s .vars ≤ l → 4 ≡ done (implied l) k .number
     number-wrong z h = sym (ap (λ (o : Outcome). o .number) (literal-refused z h))
 

@@ -1,4 +1,7 @@
-use Rattle.binary_calls.proofs.Pair.{judge-number, add-judged, add-refused, added}
+use Rattle.binary_calls.proofs.Pair.{lends, add-refused, added}
+use Rattle.kinds.specs.Lent.{lentRows}
+use Rattle.calls.specs.Call.{addBinary, onlyRows}
+use Rattle.replies.proofs.Ways.{judge-number, judge-told}
 use borrow.Author.Needs.{needs}
 use Rattle.binary_calls.proofs.add_binary_clause.Statement.{statement}
 use Rattle.binary_calls.proofs.add_binary_clause.Tie as tie
@@ -7,7 +10,7 @@ judge-rows-requires : tie.Need-judge-rows-requires
 judge-rows-requires c κs = search needs
 
 refusal-of-requires : tie.Need-refusal-of-requires
-refusal-of-requires c κs = let t = c .before .before .before .before .before .before .before in let a = t .args in judge-number (a .s) (a .rows .now) (a .counts .now) (a .lits .now) _ (c .before .judge-rows .ensures) (c .if1 .taken)
+refusal-of-requires c κs = let t = c .before .before .before .before .before .before .before in let a = t .args in judge-number (addBinary (a .lits .now)) onlyRows (lends (a .s) (a .rows .now) (a .counts .now) (a .lits .now)) (lentRows (a .s) (a .rows .now) (a .counts .now)) _ (c .before .judge-rows .ensures) (c .if1 .taken)
 
 same-length : tie.Need-same-length
 same-length c = search needs
@@ -16,7 +19,7 @@ same-length-2 : tie.Need-same-length-2
 same-length-2 c = search needs
 
 returns : tie.Need-returns
-returns c = let t = c .before .before .before .before .before .before .before .before in let a = t .args in add-judged (a .s) (a .rows .now) (a .counts .now) (a .lits .now) _ (c .before .before .judge-rows .ensures) (c .before .if1 .taken) (c .refusal-of .result) (c .refusal-of .ensures)
+returns c = let t = c .before .before .before .before .before .before .before .before in let a = t .args in judge-told (addBinary (a .lits .now)) onlyRows (lends (a .s) (a .rows .now) (a .counts .now) (a .lits .now)) (lentRows (a .s) (a .rows .now) (a .counts .now)) _ (c .before .before .judge-rows .ensures) (c .before .if1 .taken) (c .refusal-of .result) (c .refusal-of .ensures)
 
 refuse-add-binary-clause-requires : tie.Need-refuse-add-binary-clause-requires
 refuse-add-binary-clause-requires c κs = search needs

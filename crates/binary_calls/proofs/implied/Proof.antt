@@ -1,10 +1,13 @@
 use native.Mathlib.Omega.{arith}
-use Rattle.binary_calls.proofs.Reading.{part-judged, part-wrong, part-read, ready}
+use Rattle.binary_calls.proofs.Reading.{lends, part-wrong, part-read, ready}
 use mathlib.Core.Path.{sym, subst, _∙_, ap}
 use Prim.Native.Nat.{ℕ, _≤_, _<_, _*_}
 use lib.ListN.{length}
 use Rattle.laws.specs.Lists.{at, listAt}
 use Rattle.kinds.specs.Layout.{rowsOf}
+use Rattle.kinds.specs.Lent.{lentRows}
+use Rattle.calls.specs.Call.{implied, onlyRows}
+use Rattle.replies.proofs.Ways.{judge-part}
 use borrow.Author.Needs.{needs}
 use Rattle.binary_calls.proofs.implied.Statement.{statement}
 use Rattle.binary_calls.proofs.implied.Tie as tie
@@ -22,7 +25,7 @@ part-result-end : tie.Need-part-result-end
 part-result-end c = search needs
 
 returns : tie.Need-returns
-returns c = let a = c .before .before .before .before .before .args in part-judged (a .s) (a .rows .now) (a .counts .now) (a .lit .0) _ (c .before .before .judge-rows .ensures) (c .before .if1 .taken)
+returns c = let a = c .before .before .before .before .before .args in judge-part (implied (a .lit .0)) onlyRows (lends (a .s) (a .rows .now) (a .counts .now) (a .lit .0)) (lentRows (a .s) (a .rows .now) (a .counts .now)) _ (c .before .before .judge-rows .ensures) (c .before .if1 .taken)
 
 mul-if2 : tie.Need-mul-if2
 mul-if2 c = let r = (let a = c .before .before .before .before .args in ready (a .s) (a .rows .now) (a .counts .now) (a .lit .0) _ (c .before .judge-rows .ensures) (c .if1 .left)) in let h = r .high in omega arith

@@ -1,5 +1,8 @@
 use native.Mathlib.Omega.{arith}
-use Rattle.binary_calls.proofs.Reading.{number-judged, number-wrong, number-read, refusal-number, ready}
+use Rattle.binary_calls.proofs.Reading.{lends, number-wrong, number-read, ready}
+use Rattle.kinds.specs.Lent.{lentRows}
+use Rattle.calls.specs.Call.{implied, onlyRows}
+use Rattle.replies.proofs.Ways.{judge-number, judge-number-told}
 use borrow.Author.Needs.{needs}
 use Rattle.binary_calls.proofs.implied_number.Statement.{statement}
 use Rattle.binary_calls.proofs.implied_number.Tie as tie
@@ -8,10 +11,10 @@ judge-rows-requires : tie.Need-judge-rows-requires
 judge-rows-requires c κs = search needs
 
 refusal-of-requires : tie.Need-refusal-of-requires
-refusal-of-requires c κs = let a = c .before .before .before .before .args in refusal-number (a .s) (a .rows .now) (a .counts .now) (a .lit .0) _ (c .before .judge-rows .ensures) (c .if1 .taken)
+refusal-of-requires c κs = let a = c .before .before .before .before .args in judge-number (implied (a .lit .0)) onlyRows (lends (a .s) (a .rows .now) (a .counts .now) (a .lit .0)) (lentRows (a .s) (a .rows .now) (a .counts .now)) _ (c .before .judge-rows .ensures) (c .if1 .taken)
 
 returns : tie.Need-returns
-returns c = let a = c .before .before .before .before .before .args in number-judged (a .s) (a .rows .now) (a .counts .now) (a .lit .0) _ (c .before .before .judge-rows .ensures) (c .before .if1 .taken) (c .refusal-of .result) (c .refusal-of .ensures)
+returns c = let a = c .before .before .before .before .before .args in judge-number-told (implied (a .lit .0)) onlyRows (lends (a .s) (a .rows .now) (a .counts .now) (a .lit .0)) (lentRows (a .s) (a .rows .now) (a .counts .now)) _ (c .before .before .judge-rows .ensures) (c .before .if1 .taken) (c .refusal-of .result) (c .refusal-of .ensures)
 
 mul-if2 : tie.Need-mul-if2
 mul-if2 c = let r = (let a = c .before .before .before .before .args in ready (a .s) (a .rows .now) (a .counts .now) (a .lit .0) _ (c .before .judge-rows .ensures) (c .if1 .left)) in let h = r .high in omega arith
