@@ -1,32 +1,31 @@
 -- Adding a binary clause: 4, 11, and what the writes come to. Assumes nothing.
 use mathlib.Core.Path.{_≡_, refl, sym, ap, ap₂, _∙_, subst}
 use mathlib.Core.Bool.{Bool, true, false, cond, not, _&&_}
-use mathlib.Core.List.{List, []}
-use Prim.Native.Nat.{ℕ, suc, _+_, _-_, _*_, _/_, _%_, _^_, _≤_, _<_}
+use mathlib.Core.List.{List}
+use Prim.Native.Nat.{ℕ, _+_, _*_, _≤_, _<_}
 use native.Mathlib.Omega.{arith}
 use native.Mathlib.Decide.{ℕ-discrete}
 use lib.ListN.{length}
-use lib.Dec.{eqb, leb, ltb}
-use borrow.Author.Tests.{le-leb, lt-leb, eq-eqb, leb-true, leb-false, not-true, not-false}
+use lib.Dec.{leb}
+use borrow.Author.Tests.{le-leb, lt-leb, leb-true, leb-false}
 use Rattle.laws.specs.Fold.{allBelow}
 use Rattle.laws.specs.Lists.{at, listAt, more, push, lengths}
 use Rattle.laws.proofs.Folds.{all-of, all-fails, and-both, and-fails-left, and-fails-right}
 use Rattle.laws.proofs.Pushes.{more-here, more-other, length-more}
-use Rattle.laws.proofs.Tests.{and-true, passed, failed}
+use Rattle.laws.proofs.Tests.{and-true}
 use Rattle.kinds.specs.Clauses.{neg, varOf}
 use Rattle.kinds.specs.Numbers.{refusalNumber}
 use Rattle.kinds.specs.Setters.{withBinaryCount}
-use Rattle.kinds.specs.Lent.{Lent, lentRows, roomOf, noHost}
-use Rattle.kinds.specs.Held.{Held}
+use Rattle.kinds.specs.Lent.{Lent, lentRows, roomOf}
 use Rattle.kinds.specs.Layout.{rowsOf, fillRows, view, side, lay, layState, layHost, fit, fitRow}
 use Rattle.kinds.specs.declared.State.{State}
 use Rattle.kinds.specs.declared.Refusal.{Refusal}
 use Rattle.kinds.proofs.RowLayout.{at-lengths, lengths-push, lengths-rows}
-use Rattle.calls.specs.Call.{Command, addBinary, parts, onlyRows}
+use Rattle.calls.specs.Call.{addBinary, parts, onlyRows}
 use Rattle.calls.specs.StorePasses.{litsOk}
 use Rattle.calls.specs.Adding.{pairPushed, addedPair, addedBinary}
 use Rattle.calls.specs.Refusing.{lowest, own, clauseWrong}
-use Rattle.calls.specs.Outcome.{Outcome, nothing, judged, refusedFor, hasRoom, ownNumber, orElse, step, answer, refused, accepted, done}
+use Rattle.calls.specs.Outcome.{nothing, judged, refusedFor, hasRoom, ownNumber, orElse, step, answer, refused, accepted, done}
 use Rattle.calls.proofs.Laws.{not-refused}
 use Rattle.calls.proofs.Laws.{has-room as room-given}
 use Rattle.calls.proofs.Judged.{row-fits}

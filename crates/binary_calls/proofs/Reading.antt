@@ -5,15 +5,15 @@ use mathlib.Core.List.{List, []}
 use Prim.Native.Nat.{ℕ, _*_, _≤_, _<_}
 use native.Mathlib.Omega.{arith}
 use lib.ListN.{length}
-use lib.Dec.{ltb, leb}
+use lib.Dec.{ltb}
 use borrow.Author.Tests.{lt-ltb, le-ltb, le-leb}
 use Rattle.laws.specs.Fold.{allBelow}
-use Rattle.laws.specs.Lists.{at, listAt}
+use Rattle.laws.specs.Lists.{listAt}
 use Rattle.laws.proofs.Folds.{all-of, and-both}
 use Rattle.kinds.specs.Lent.{Lent, lentRows, roomOf}
 use Rattle.kinds.specs.Layout.{rowsOf, view, lay, fit, fitRow}
 use Rattle.kinds.specs.declared.State.{State}
-use Rattle.calls.specs.Call.{Command, implied, parts, onlyRows}
+use Rattle.calls.specs.Call.{implied, parts, onlyRows}
 use Rattle.calls.specs.Refusing.{lowest, own, literalWrong}
 use Rattle.calls.specs.Outcome.{Outcome, judged, refusedFor, hasRoom, ownNumber, orElse, step, answer, part, partOf, refused, accepted, done}
 use Rattle.replies.proofs.Ways.{own-way, step-way, part-none, part-told}

@@ -1,8 +1,8 @@
 -- Assessing a learned clause: the ways through the call. Assumes nothing.
 use mathlib.Core.Path.{_≡_, refl, sym, ap, ap₂, _∙_, subst}
 use mathlib.Core.Bool.{Bool, true, false, cond, not, _&&_}
-use mathlib.Core.List.{List, []}
-use Prim.Native.Nat.{ℕ, _+_, _*_, _/_, _≤_, _<_}
+use mathlib.Core.List.{List}
+use Prim.Native.Nat.{ℕ, _*_, _≤_, _<_}
 use native.Mathlib.Omega.{arith}
 use lib.ListN.{length}
 use lib.Dec.{leb}
@@ -14,13 +14,13 @@ use Rattle.kinds.specs.Header.{saturated}
 use Rattle.kinds.specs.Clauses.{varOf}
 use Rattle.kinds.specs.Lent.{Lent, lentLevels}
 use Rattle.kinds.specs.Layout.{view, side, fit}
-use Rattle.calls.specs.Call.{Command, assess, parts, onlyLevels}
+use Rattle.calls.specs.Call.{assess, parts, onlyLevels}
 use Rattle.calls.specs.StorePasses.{litsOk}
-use Rattle.calls.specs.Bumping.{levelOf, tierFor, learnedGlue}
+use Rattle.calls.specs.Bumping.{tierFor, learnedGlue}
 use Rattle.calls.specs.Refusing.{lowest, own, clauseWrong}
-use Rattle.calls.specs.Outcome.{Outcome, Answer, assessed, judged, refusedFor, hasRoom, ownNumber, orElse, step, answer, refused, accepted, done}
+use Rattle.calls.specs.Outcome.{Outcome, Answer, assessed, judged, refusedFor, hasRoom, ownNumber, orElse, step, answer, refused, done}
 use Rattle.calls.proofs.Judged.{sizes-judged, host-judged, vars-high, levels-long}
-use Rattle.calls.proofs.Readings.{Lits, lits-read, levels-pass}
+use Rattle.calls.proofs.Readings.{lits-read, levels-pass}
 use Rattle.assess.specs.Levelled.{Levelled}
 use Rattle.replies.proofs.Ways.{own-way, still-way}
 

@@ -1,7 +1,7 @@
 -- Emptying the record: the ways through the call. Assumes nothing.
 use mathlib.Core.Path.{_≡_, refl, sym, ap, _∙_}
-use mathlib.Core.Bool.{Bool, true, false, cond}
-use mathlib.Core.List.{List, []}
+use mathlib.Core.Bool.{Bool, true, cond}
+use mathlib.Core.List.{List}
 use Prim.Native.Nat.{ℕ, _-_, _≤_}
 use native.Mathlib.Omega.{arith}
 use lib.ListN.{length, replicate}
@@ -12,7 +12,7 @@ use Rattle.kinds.specs.Setters.{withRecorded}
 use Rattle.kinds.specs.Lent.{Lent, lentRecord}
 use Rattle.kinds.specs.Layout.{view, side, lay, layState, layHost, fit}
 use Rattle.kinds.specs.declared.State.{State}
-use Rattle.calls.specs.Call.{Command, emptyRecord, parts, onlyRecord}
+use Rattle.calls.specs.Call.{emptyRecord, parts, onlyRecord}
 use Rattle.calls.specs.Adding.{recordEmptied}
 use Rattle.calls.specs.Refusing.{lowest, own}
 use Rattle.calls.specs.Outcome.{nothing, judged, refusedFor, hasRoom, ownNumber, orElse, step, answer, accepted, done}

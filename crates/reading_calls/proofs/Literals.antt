@@ -1,8 +1,8 @@
 -- A clause's literals: the ways through the two calls. Assumes nothing.
-use mathlib.Core.Path.{_≡_, refl, sym, ap, _∙_, subst}
+use mathlib.Core.Path.{_≡_, refl, sym, ap, _∙_}
 use mathlib.Core.Bool.{Bool, true, false, cond, not, _&&_}
 use mathlib.Core.List.{List, []}
-use Prim.Native.Nat.{ℕ, _≤_, _<_}
+use Prim.Native.Nat.{ℕ, _≤_}
 use native.Mathlib.Omega.{arith}
 use lib.ListN.{length, take}
 use lib.Seq.{length-take-le}
@@ -14,7 +14,7 @@ use Rattle.kinds.specs.Clauses.{litsAt, endAt, isLive}
 use Rattle.kinds.specs.Lent.{Lent, lentWords, noHost}
 use Rattle.kinds.specs.Layout.{view, lay, fit}
 use Rattle.kinds.specs.declared.State.{State}
-use Rattle.calls.specs.Call.{Command, literals, parts, wordsAndList}
+use Rattle.calls.specs.Call.{literals, parts, wordsAndList}
 use Rattle.calls.specs.StorePasses.{placed, wordsPass}
 use Rattle.calls.specs.Refusing.{lowest, own, notLive}
 use Rattle.calls.specs.Outcome.{Outcome, judged, refusedFor, hasRoom, ownNumber, orElse, step, answer, part, partOf, refused, accepted, done}

@@ -1,7 +1,7 @@
 -- The ways through a public call, in the code's terms: what the judging gave, what the call's own refusals gave, what the step left. Assumes nothing.
-use mathlib.Core.Path.{_≡_, refl, sym, ap, ap₂, _∙_, subst}
+use mathlib.Core.Path.{_≡_, sym, ap, _∙_, subst}
 use mathlib.Core.Bool.{Bool, true, false, cond, not}
-use mathlib.Core.List.{List, []}
+use mathlib.Core.List.{[]}
 use Prim.Native.Nat.{ℕ, _≤_, _<_}
 use native.Mathlib.Omega.{arith}
 use lib.ListN.{length}
@@ -15,7 +15,7 @@ use Rattle.calls.specs.Size.{sizesOk}
 use Rattle.calls.specs.StorePasses.{storePasses}
 use Rattle.calls.specs.HostPasses.{hostPasses}
 use Rattle.calls.specs.Refusing.{lowest}
-use Rattle.calls.specs.Outcome.{Outcome, Answer, nothing, part, partOf, judged, ownNumber, step, answer, refused, accepted, done}
+use Rattle.calls.specs.Outcome.{Outcome, Answer, part, partOf, judged, ownNumber, step, answer, refused, accepted, done}
 use Rattle.calls.proofs.Laws.{judge-refuses, call-refuses, call-accepts}
 use Rattle.calls.proofs.Judged.{sizes-judged}
 use Rattle.calls.proofs.Unchanged.{unchanged}

@@ -11,22 +11,30 @@ judge-record-requires : tie.Need-judge-record-requires
 judge-record-requires c κs = search needs
 
 refusal-of-requires : tie.Need-refusal-of-requires
-refusal-of-requires c κs = let t = c .before .before .before .before in let a = t .args in judge-number emptyRecord onlyRecord lends (lentRecord (a .s) (a .rec .now)) _ (c .before .judge-record .ensures) (c .if1 .taken)
+refusal-of-requires c κs =
+    let a = c .before .before .before .before .args in
+    judge-number emptyRecord onlyRecord lends (lentRecord (a .s) (a .rec .now)) _ (c .before .judge-record .ensures) (c .if1 .taken)
 
 same-length : tie.Need-same-length
 same-length c = search needs
 
 returns : tie.Need-returns
-returns c = let t = c .before .before .before .before .before in let a = t .args in judge-told emptyRecord onlyRecord lends (lentRecord (a .s) (a .rec .now)) _ (c .before .before .judge-record .ensures) (c .before .if1 .taken) (c .refusal-of .result) (c .refusal-of .ensures)
+returns c =
+    let a = c .before .before .before .before .before .args in
+    judge-told emptyRecord onlyRecord lends (lentRecord (a .s) (a .rec .now)) _ (c .before .before .judge-record .ensures) (c .before .if1 .taken) (c .refusal-of .result) (c .refusal-of .ensures)
 
 clear-requires : tie.Need-clear-requires
-clear-requires c κs = let t = c .before .before .before .before .before in let a = t .args in (omega arith, used (a .s) (a .rec .now) _ (c .before .before .judge-record .ensures) (c .before .if1 .left))
+clear-requires c κs =
+    let a = c .before .before .before .before .before .args in
+    (omega arith, used (a .s) (a .rec .now) _ (c .before .before .judge-record .ensures) (c .before .if1 .left))
 
 same-length-2 : tie.Need-same-length-2
 same-length-2 c = search needs
 
 returns-2 : tie.Need-returns-2
-returns-2 c = let t = c .before .before .before .before .before .before .before .before .before .before .before in let a = t .args in emptied (a .s) (a .rec .now) _ (c .before .before .before .before .before .before .before .before .judge-record .ensures) (c .before .before .before .before .before .before .before .if1 .left) _ (c .before .before .before .before .before .clear .ensures)
+returns-2 c =
+    let a = c .before .before .before .before .before .before .before .before .before .before .before .args in
+    emptied (a .s) (a .rec .now) _ (c .before .before .before .before .before .before .before .before .judge-record .ensures) (c .before .before .before .before .before .before .before .if1 .left) _ (c .before .before .before .before .before .clear .ensures)
 
 pub empty-record-spec : {M : Type 1} → statement M
 empty-record-spec =

@@ -1,4 +1,3 @@
-use native.Mathlib.Omega.{arith}
 use mathlib.Core.Path.{_∙_}
 use Rattle.starting.proofs.Ways.{cleared}
 use borrow.Author.Needs.{needs}
@@ -12,7 +11,9 @@ same-length : tie.Need-same-length
 same-length c = search needs
 
 returns : tie.Need-returns
-returns c = let t = c .before .before .before .before .before in let a = t .args in c .before .before .clear .ensures ∙ cleared (a .words .now)
+returns c =
+    let a = c .before .before .before .before .before .args in
+    c .before .before .clear .ensures ∙ cleared (a .words .now)
 
 pub clear-all-spec : {M : Type 1} → statement M
 clear-all-spec =

@@ -34,7 +34,9 @@ same-length-9 : tie.Need-same-length-9
 same-length-9 c = search needs
 
 returns : tie.Need-returns
-returns c = let t = c .before .before .before .before .before .before .before .before .before .before .before .before .before .before .before .before .before .before .before .before in let a = t .args in size-refused (a .s) (a .vars) (a .decay) (a .words .now) (a .clauses .now) (a .irred .now) (a .core .now) (a .mid .now) (a .local .now) (a .rows .now) (a .counts .now) (a .rec .now) _ (c .before .start-sizes-ok .ensures) (c .if1 .taken)
+returns c =
+    let a = c .before .before .before .before .before .before .before .before .before .before .before .before .before .before .before .before .before .before .before .before .args in
+    size-refused (a .s) (a .vars) (a .decay) (a .words .now) (a .clauses .now) (a .irred .now) (a .core .now) (a .mid .now) (a .local .now) (a .rows .now) (a .counts .now) (a .rec .now) _ (c .before .start-sizes-ok .ensures) (c .if1 .taken)
 
 decay-ok-requires : tie.Need-decay-ok-requires
 decay-ok-requires c κs = search needs
@@ -67,7 +69,9 @@ same-length-18 : tie.Need-same-length-18
 same-length-18 c = search needs
 
 returns-2 : tie.Need-returns-2
-returns-2 c = let t = c .before .before .before .before .before .before .before .before .before .before .before .before .before .before .before .before .before .before .before .before .before .before in let a = t .args in decay-refused (a .s) (a .vars) (a .decay) (a .words .now) (a .clauses .now) (a .irred .now) (a .core .now) (a .mid .now) (a .local .now) (a .rows .now) (a .counts .now) (a .rec .now) _ (c .before .before .before .start-sizes-ok .ensures) (c .before .before .if1 .left) _ (c .before .decay-ok .ensures) (c .if2 .taken)
+returns-2 c =
+    let a = c .before .before .before .before .before .before .before .before .before .before .before .before .before .before .before .before .before .before .before .before .before .before .args in
+    decay-refused (a .s) (a .vars) (a .decay) (a .words .now) (a .clauses .now) (a .irred .now) (a .core .now) (a .mid .now) (a .local .now) (a .rows .now) (a .counts .now) (a .rec .now) _ (c .before .before .before .start-sizes-ok .ensures) (c .before .before .if1 .left) _ (c .before .decay-ok .ensures) (c .if2 .taken)
 
 clear-all-requires : tie.Need-clear-all-requires
 clear-all-requires c κs = search needs
@@ -124,7 +128,9 @@ same-length-27 : tie.Need-same-length-27
 same-length-27 c = search needs
 
 returns-3 : tie.Need-returns-3
-returns-3 c = let t = c .before .before .before .before .before .before .before .before .before .before .before .before .before .before .before .before .before .before .before .before .before .before .before .before .before .before .before .before .before .before .before .before .before .before .before .before .before .before .before .before .before .before .before .before .before .before .before .before .before .before .before .before .before .before .before .before .before .before in let a = t .args in is-started (a .s) (a .vars) (a .decay) (a .words .now) (a .clauses .now) (a .irred .now) (a .core .now) (a .mid .now) (a .local .now) (a .rows .now) (a .counts .now) (a .rec .now) _ (c .before .before .before .before .before .before .before .before .before .before .before .before .before .before .before .before .before .before .before .before .before .before .before .before .before .before .before .before .before .before .before .before .before .before .before .before .before .before .before .start-sizes-ok .ensures) (c .before .before .before .before .before .before .before .before .before .before .before .before .before .before .before .before .before .before .before .before .before .before .before .before .before .before .before .before .before .before .before .before .before .before .before .before .before .before .if1 .left) _ (c .before .before .before .before .before .before .before .before .before .before .before .before .before .before .before .before .before .before .before .before .before .before .before .before .before .before .before .before .before .before .before .before .before .before .before .before .before .decay-ok .ensures) (c .before .before .before .before .before .before .before .before .before .before .before .before .before .before .before .before .before .before .before .before .before .before .before .before .before .before .before .before .before .before .before .before .before .before .before .before .if2 .left) _ _ _ _ _ _ _ _ _ (c .before .before .before .before .before .before .before .before .before .before .before .before .before .before .before .before .before .before .before .before .before .before .before .before .before .before .before .before .before .before .before .before .before .before .clear-all .ensures) (c .before .before .before .before .before .before .before .before .before .before .before .before .before .before .before .before .before .before .before .before .before .before .before .before .before .before .before .before .before .before .clear-all2 .ensures) (c .before .before .before .before .before .before .before .before .before .before .before .before .before .before .before .before .before .before .before .before .before .before .before .before .before .before .clear-all3 .ensures) (c .before .before .before .before .before .before .before .before .before .before .before .before .before .before .before .before .before .before .before .before .before .before .clear-all4 .ensures) (c .before .before .before .before .before .before .before .before .before .before .before .before .before .before .before .before .before .before .clear-all5 .ensures) (c .before .before .before .before .before .before .before .before .before .before .before .before .before .before .clear-all6 .ensures) (c .before .before .before .before .before .before .before .before .before .before .clear-all7 .ensures) (c .before .before .before .before .before .before .clear-all8 .ensures) (c .before .before .clear-all9 .ensures)
+returns-3 c =
+    let a = c .before .before .before .before .before .before .before .before .before .before .before .before .before .before .before .before .before .before .before .before .before .before .before .before .before .before .before .before .before .before .before .before .before .before .before .before .before .before .before .before .before .before .before .before .before .before .before .before .before .before .before .before .before .before .before .before .before .before .args in
+    is-started (a .s) (a .vars) (a .decay) (a .words .now) (a .clauses .now) (a .irred .now) (a .core .now) (a .mid .now) (a .local .now) (a .rows .now) (a .counts .now) (a .rec .now) _ (c .before .before .before .before .before .before .before .before .before .before .before .before .before .before .before .before .before .before .before .before .before .before .before .before .before .before .before .before .before .before .before .before .before .before .before .before .before .before .before .start-sizes-ok .ensures) (c .before .before .before .before .before .before .before .before .before .before .before .before .before .before .before .before .before .before .before .before .before .before .before .before .before .before .before .before .before .before .before .before .before .before .before .before .before .before .if1 .left) _ (c .before .before .before .before .before .before .before .before .before .before .before .before .before .before .before .before .before .before .before .before .before .before .before .before .before .before .before .before .before .before .before .before .before .before .before .before .before .decay-ok .ensures) (c .before .before .before .before .before .before .before .before .before .before .before .before .before .before .before .before .before .before .before .before .before .before .before .before .before .before .before .before .before .before .before .before .before .before .before .before .if2 .left) _ _ _ _ _ _ _ _ _ (c .before .before .before .before .before .before .before .before .before .before .before .before .before .before .before .before .before .before .before .before .before .before .before .before .before .before .before .before .before .before .before .before .before .before .clear-all .ensures) (c .before .before .before .before .before .before .before .before .before .before .before .before .before .before .before .before .before .before .before .before .before .before .before .before .before .before .before .before .before .before .clear-all2 .ensures) (c .before .before .before .before .before .before .before .before .before .before .before .before .before .before .before .before .before .before .before .before .before .before .before .before .before .before .clear-all3 .ensures) (c .before .before .before .before .before .before .before .before .before .before .before .before .before .before .before .before .before .before .before .before .before .before .clear-all4 .ensures) (c .before .before .before .before .before .before .before .before .before .before .before .before .before .before .before .before .before .before .clear-all5 .ensures) (c .before .before .before .before .before .before .before .before .before .before .before .before .before .before .clear-all6 .ensures) (c .before .before .before .before .before .before .before .before .before .before .clear-all7 .ensures) (c .before .before .before .before .before .before .clear-all8 .ensures) (c .before .before .clear-all9 .ensures)
 
 pub start-spec : {M : Type 1} → statement M
 start-spec =
