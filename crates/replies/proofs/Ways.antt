@@ -1,8 +1,8 @@
 -- The ways through a public call, in the code's terms: what the judging gave, what the call's own refusals gave, what the step left. Assumes nothing.
-use mathlib.Core.Path.{_≡_, refl, sym, ap, ap₂, _∙_, subst}
+use mathlib.Core.Path.{_≡_, sym, ap, _∙_, subst}
 use mathlib.Core.Bool.{Bool, true, false, cond, not}
-use mathlib.Core.List.{List, []}
-use Prim.Native.Nat.{ℕ, _≤_}
+use mathlib.Core.List.{[]}
+use Prim.Native.Nat.{ℕ, _≤_, _<_}
 use native.Mathlib.Omega.{arith}
 use lib.ListN.{length}
 use Rattle.kinds.specs.Numbers.{refusalNumber}
@@ -15,7 +15,7 @@ use Rattle.calls.specs.Size.{sizesOk}
 use Rattle.calls.specs.StorePasses.{storePasses}
 use Rattle.calls.specs.HostPasses.{hostPasses}
 use Rattle.calls.specs.Refusing.{lowest}
-use Rattle.calls.specs.Outcome.{Outcome, Answer, nothing, part, partOf, judged, ownNumber, step, answer, refused, accepted, done}
+use Rattle.calls.specs.Outcome.{Outcome, Answer, part, partOf, judged, ownNumber, step, answer, refused, accepted, done}
 use Rattle.calls.proofs.Laws.{judge-refuses, call-refuses, call-accepts}
 use Rattle.calls.proofs.Judged.{sizes-judged}
 use Rattle.calls.proofs.Unchanged.{unchanged}
@@ -70,3 +70,18 @@ part-none k n d = sym (ap (λ (o : Outcome). partOf (o .answer)) d)
 
 pub part-told : (k : Lent) (a : Answer) {o : Outcome} → o ≡ accepted a k → partOf a ≡ partOf (o .answer)
 part-told k a d = sym (ap (λ (o : Outcome). partOf (o .answer)) d)
+
+-- ---- where the judging gave n, not 0
+
+module _ (c : Command) (p : Parts) (lends : parts c ≡ p) (k : Lent) (n : ℕ) (e : n ≡ judged p k) where
+  pub judge-number : (n ≡ 0 → ⊥) → (0 < n) × (n ≤ 12)
+  judge-number h = let t : n ≤ 3 = subst (λ (x : ℕ). x ≤ 3) (sym e) (judged-most p k) in (omega arith, omega arith)
+
+  pub judge-told : (n ≡ 0 → ⊥) → (r : Refusal) → refusalNumber r ≡ n → refused (refusalNumber r) k ≡ done c k
+  judge-told h r q = refusal-told k r n q (judge-way c p lends k n e h)
+
+  pub judge-number-told : (n ≡ 0 → ⊥) → (r : Refusal) → refusalNumber r ≡ n → refusalNumber r ≡ done c k .number
+  judge-number-told h r q = number-told k r n q (judge-way c p lends k n e h)
+
+  pub judge-part : (n ≡ 0 → ⊥) → [] ≡ partOf (done c k .answer)
+  judge-part h = part-none k n (judge-way c p lends k n e h)

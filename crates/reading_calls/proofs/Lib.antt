@@ -1,0 +1,3 @@
+pub mod Literals
+pub mod Assessing
+pub mod Emptying
