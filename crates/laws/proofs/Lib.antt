@@ -11,3 +11,4 @@ pub mod Writing
 pub mod Entries
 pub mod Sums
 pub mod Tests
+pub mod Walks
