@@ -18,7 +18,7 @@ same-length-2 : tie.Need-same-length-2
 same-length-2 c = search needs
 
 returns : tie.Need-returns
-returns c = 
+returns c =
     let u = c .before .before .unmark in
     let b = c .before .before .before .before .before .before .before .before .before in
     let m = b .mark in

@@ -98,10 +98,9 @@ same-length-2 : tie.Need-same-length-2 Inv-loop μ-loop
 same-length-2 c = omega arith
 
 returns : tie.Need-returns Inv-loop μ-loop
-returns c = 
+returns c =
     let l = c .before in
-    let s = l .before .before .before in
-    (
+    let s = l .before .before .before in (
       mark-end (s .args .n) (s .args .tier) (s .args .words .now) (s .args .list .now) (l .loop .words) (l .loop .list) (l .loop .i) (l .loop .k) (s .pre .0) (l .loop .inv) (c .loop-test .left),
       (l .loop .inv .marked, mark-after (s .args .n) (s .args .tier) (s .args .words .now) (s .args .list .now) (l .loop .words) (l .loop .list) (l .loop .i) (l .loop .k) (l .loop .inv)),
     )

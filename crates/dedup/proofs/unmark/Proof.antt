@@ -67,7 +67,7 @@ same-length : tie.Need-same-length Inv-loop μ-loop
 same-length c = omega arith
 
 returns : tie.Need-returns Inv-loop μ-loop
-returns c = 
+returns c =
     let l = c .before in
     let s = l .before .before .before in
     unmark-end (s .args .list .now) (s .args .words .now) (s .args .k) (l .loop .words) (l .loop .i) (s .pre .0) (l .loop .inv) (c .loop-test .left)
