@@ -12,3 +12,4 @@ pub mod Entries
 pub mod Sums
 pub mod Tests
 pub mod Walks
+pub mod Subsets

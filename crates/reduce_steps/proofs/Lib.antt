@@ -1,0 +1,5 @@
+pub mod Fours
+pub mod Cleaned
+pub mod Passing
+pub mod Sweeping
+pub mod Swept

@@ -1,3 +1,6 @@
+use mathlib.Core.Path.{_≡_}
+use lib.ListN.{length}
+use Prim.Native.Nat.{ℕ, _-_}
 use Rattle.reduce_steps.proofs.mids.Statement.{statement}
 use Rattle.reduce_steps.proofs.mids.Tie as tie
 use Rattle.reduce_steps.proofs.mids.Reads as reads
@@ -10,11 +13,11 @@ use Rattle.header.proofs.with_tier.Reads as with-tier-reads
 
 abbrev Inv-loop : tie.InvT-loop
 Inv-loop s words₀ clauses irred core mid₀ local₀ lens counts₀ activity used n i₀ kept₀ locals₀ words mid local counts i kept locals =
-    ?
+    (length words₀ ≡ length mid₀) × (lens ≡ lens) × (length words ≡ length mid)
 
 abbrev μ-loop : tie.MeasureT-loop
 μ-loop s words₀ clauses irred core mid₀ local₀ lens counts₀ activity used n i₀ kept₀ locals₀ words mid local counts i kept locals =
-    ?
+    n - i
 
 -- src/lib.rt:63:16
 array-read-used : tie.Need-array-read-used Inv-loop μ-loop
