@@ -82,6 +82,12 @@ pub record Sweep (h : Held) (n : ℕ) (mid₁ local₀ words mid local counts : 
   pub distinct : Distinct (drop i (take n mid₁))
   pub goal : foldList midDone (midsNow h words counts (take kept mid) (take locals local)) (drop i (take n mid₁)) ≡ midsReduced h
 
+-- before the first turn, with room for what is moved
+pub record Begun (h : Held) (n : ℕ) (mid₁ local₀ words₀ counts₀ : List ℕ) (locals₀ : ℕ) : Type 0 where
+  pub begins : Sweep h n mid₁ local₀ words₀ mid₁ local₀ counts₀ 0 0 locals₀
+  pub fit : n ≤ length mid₁
+  pub room : length (listAt (midsReduced h .tiers) 3) ≤ length local₀
+
 pub sweep-start : (h : Held) (n : ℕ) (mid₁ local : List ℕ) → Store (h .vars) (h .words) (h .used) (h .clauses) (h .counts) (h .garbage) (h .tiers) []
     → take n mid₁ ≡ cleanedTier 2 h → Ready (h .words) (h .clauses) 2 (cleanedTier 2 h) → Distinct (cleanedTier 2 h)
     → (locals : ℕ) → locals ≤ length local → listAt (h .tiers) 3 ≡ take locals local

@@ -42,6 +42,10 @@ pub record MidsReady (s : State) (words clauses irred core mid local : List ℕ)
   pub entries : Entries words 2 (take (at (s .tiers) 2) mid)
   pub room : length (listAt (midsReduced (view (lentFive s words clauses irred core mid local noHost)) .tiers) 3) ≤ length local
 
+pub same-words : (s : State) (words clauses irred core mid local : List ℕ) → length (view (lentFive s words clauses irred core mid local noHost) .words) ≡ length words
+unfolding view
+same-words s words clauses irred core mid local = refl
+
 lay-mids : (s : State) (words clauses irred core mid local words₁ counts₁ m l lens : List ℕ) (bufs : List (List ℕ)) → s .clauses ≤ length clauses
     → lens ≡ lengths (listAt (takeEach (s .tiers) (irred ∷ core ∷ mid ∷ local ∷ [])) 0 ∷ listAt (takeEach (s .tiers) (irred ∷ core ∷ mid ∷ local ∷ [])) 1 ∷ m ∷ l ∷ [])
     → bufs ≡ fillEach (irred ∷ core ∷ mid ∷ local ∷ []) (s .tiers) (listAt (takeEach (s .tiers) (irred ∷ core ∷ mid ∷ local ∷ [])) 0 ∷ listAt (takeEach (s .tiers) (irred ∷ core ∷ mid ∷ local ∷ [])) 1 ∷ m ∷ l ∷ [])

@@ -1,187 +1,310 @@
-use mathlib.Core.Path.{_≡_}
-use lib.ListN.{length}
-use Prim.Native.Nat.{ℕ, _-_}
+use mathlib.Core.Path.{_≡_, refl, sym, ap, _∙_, subst}
+use mathlib.Core.Bool.{true, false}
+use mathlib.Core.List.{List, [], _∷_}
+use Prim.Native.Nat.{ℕ, _+_, _-_, _^_, _≤_, _<_}
+use native.Mathlib.Omega.{arith}
+use lib.ListN.{length, set, length-set}
+use borrow.Author.Needs.{needs}
+use Rattle.laws.specs.Lists.{at, more, less}
+use Rattle.laws.proofs.Pushes.{less-other}
+use Rattle.kinds.specs.Lent.{lentFive, noHost}
+use Rattle.kinds.specs.Held.{Held}
+use Rattle.kinds.specs.Layout.{view}
+use Rattle.reduce_steps.proofs.Sweeping.{Sweep, Begun, inside, one-there, sweep-keep, local-room, sweep-move}
+use Rattle.reduce_steps.proofs.Swept.{MidsReady, mids-ready, mids-begin, counts-few, mids-laid, same-words}
 use Rattle.reduce_steps.proofs.mids.Statement.{statement}
 use Rattle.reduce_steps.proofs.mids.Tie as tie
-use Rattle.reduce_steps.proofs.mids.Reads as reads
-use Rattle.reduce_steps.proofs.mids.Lts as lts
-use Rattle.buffers.proofs.clear.Reads as clear-reads
-use Rattle.dedup.proofs.clean.Reads as clean-reads
-use Rattle.header.proofs.active_of.Reads as active-of-reads
-use Rattle.header.proofs.with_active.Reads as with-active-reads
-use Rattle.header.proofs.with_tier.Reads as with-tier-reads
 
 abbrev Inv-loop : tie.InvT-loop
 Inv-loop s words₀ clauses irred core mid₀ local₀ lens counts₀ activity used n i₀ kept₀ locals₀ words mid local counts i kept locals =
-    (length words₀ ≡ length mid₀) × (lens ≡ lens) × (length words ≡ length mid)
+    (h : Held) → Begun h n mid₀ local₀ words₀ counts₀ locals₀ → Sweep h n mid₀ local₀ words mid local counts i kept locals
 
 abbrev μ-loop : tie.MeasureT-loop
-μ-loop s words₀ clauses irred core mid₀ local₀ lens counts₀ activity used n i₀ kept₀ locals₀ words mid local counts i kept locals =
-    n - i
+μ-loop s words₀ clauses irred core mid₀ local₀ lens counts₀ activity used n i₀ kept₀ locals₀ words mid local counts i kept locals = n - i
 
--- src/lib.rt:63:16
+tier-lengths : (c : tie.Start Inv-loop μ-loop) → length (c .args .s .tiers) ≡ 4
+tier-lengths c = search needs
+
+count-lengths : (c : tie.Start Inv-loop μ-loop) → length (c .args .s .counts) ≡ 4
+count-lengths c = search needs
+
+ready : (c : tie.Start Inv-loop μ-loop) → MidsReady (c .args .s) (c .args .words .now) (c .args .clauses .now) (c .args .irred .now) (c .args .core .now) (c .args .mid .now) (c .args .local .now)
+ready c = mids-ready (c .args .s) (c .args .words .now) (c .args .clauses .now) (c .args .irred .now) (c .args .core .now) (c .args .mid .now) (c .args .local .now) (tier-lengths c) (count-lengths c) (c .pre .0) (c .pre .1)
+
+-- what is held at the start
+abbrev held : tie.Start Inv-loop μ-loop → Held
+held c = view (lentFive (c .args .s) (c .args .words .now) (c .args .clauses .now) (c .args .irred .now) (c .args .core .now) (c .args .mid .now) (c .args .local .now) noHost)
+
+begun : (c : tie.At-loop Inv-loop μ-loop) →
+    let m = c .before .before .before .before .before .clean in
+    let s = c .before .before .before .before .before .before .before .before .before .before .before .before .before .before .before .before .before in
+    Begun (held s) (m .result) (m .last .1 .0) (s .args .local .now) (m .last .0) (s .args .s .counts) (at (s .args .s .tiers) 3)
+begun c =
+    let m = c .before .before .before .before .before .clean in
+    let s = c .before .before .before .before .before .before .before .before .before .before .before .before .before .before .before .before .before in
+    let r = ready s in
+    let long : length (m .last .1 .0) ≡ length (s .args .mid .now) = m .kept .1 .0 in
+    let few = m .ensures .0 .few in
+    let used = r .mid-used in
+    record {
+      begins = mids-begin (s .args .s) (s .args .words .now) (s .args .clauses .now) (s .args .irred .now) (s .args .core .now) (s .args .mid .now) (s .args .local .now) (tier-lengths s) (count-lengths s) (s .pre .0) (m .last .1 .0) (m .last .0) (m .result) (m .ensures .0) (m .ensures .1) (r .local-used);
+      fit = omega arith;
+      room = r .room;
+    }
+
+swept : (c : tie.At-loop Inv-loop μ-loop) →
+    let m = c .before .before .before .before .before .clean in
+    let s = c .before .before .before .before .before .before .before .before .before .before .before .before .before .before .before .before .before in
+    Sweep (held s) (m .result) (m .last .1 .0) (s .args .local .now) (c .loop .words) (c .loop .mid) (c .loop .local) (c .loop .counts) (c .loop .i) (c .loop .kept) (c .loop .locals)
+swept c = c .loop .inv (held (c .before .before .before .before .before .before .before .before .before .before .before .before .before .before .before .before .before)) (begun c)
+
+-- of a turn: the entries fit their buffers, and the entry lies within the words
+record Turn (n i kept locals entry words mid local : ℕ) : Type 0 where
+  i-in : i < mid
+  kept-in : kept < mid
+  locals-le : locals ≤ local
+  inside : entry + 1 < words
+  few : mid ≤ 2 ^ 22
+  local-few : local ≤ 2 ^ 22
+  words-few : words ≤ 2 ^ 24
+
+turn : (c : tie.In-loop Inv-loop μ-loop) →
+    let l = c .before .loop in
+    Turn (c .before .before .before .before .before .before .clean .result) (l .i) (l .kept) (l .locals) (at (l .mid) (l .i)) (length (l .words)) (length (l .mid)) (length (l .local))
+turn c =
+    let d = c .before in
+    let m = d .before .before .before .before .before .clean in
+    let s = d .before .before .before .before .before .before .before .before .before .before .before .before .before .before .before .before .before in
+    let r = ready s in
+    let w = swept d in
+    let long : length (m .last .1 .0) ≡ length (s .args .mid .now) = m .kept .1 .0 in
+    let few = m .ensures .0 .few in
+    let used = r .mid-used in
+    let a = w .kept-le in
+    let b = w .mid-len in
+    let e = w .local-len in
+    let f = w .locals-le in
+    let g = w .words-len in
+    let wide : length (held s .words) ≡ length (s .args .words .now) = refl-words s in
+    let x = r .mid-most in
+    let y = r .local-most in
+    let z = r .words-most in
+    record {
+      i-in = omega (arith, c .loop-test .taken);
+      kept-in = omega (arith, c .loop-test .taken);
+      locals-le = omega arith;
+      inside = inside (held s) (m .result) (m .last .1 .0) (s .args .local .now) (d .loop .words) (d .loop .mid) (d .loop .local) (d .loop .counts) (d .loop .i) (d .loop .kept) (d .loop .locals) (begun d .fit) w (c .loop-test .taken);
+      few = omega arith;
+      local-few = omega arith;
+      words-few = omega arith;
+    }
+  where
+    refl-words : (c : tie.Start Inv-loop μ-loop) → length (held c .words) ≡ length (c .args .words .now)
+    refl-words c = same-words (c .args .s) (c .args .words .now) (c .args .clauses .now) (c .args .irred .now) (c .args .core .now) (c .args .mid .now) (c .args .local .now)
+
 array-read-used : tie.Need-array-read-used Inv-loop μ-loop
-array-read-used c = ?
+array-read-used c = omega arith
 
--- src/lib.rt:64:9
 clean-requires : tie.Need-clean-requires Inv-loop μ-loop
-clean-requires c κs = ?
+clean-requires c κs = let s = c .before .before .before .before .before .before .before .before .before .before .before in (ready s .mid-used, (omega arith, ready s .entries))
 
--- src/lib.rt:67:22
 array-read-locals : tie.Need-array-read-locals Inv-loop μ-loop
-array-read-locals c = ?
+array-read-locals c = omega arith
 
--- src/lib.rt:68:5
 loop-holds : tie.Need-loop-holds Inv-loop μ-loop
-loop-holds c = ?
+loop-holds c = λ h b. b .begins
 
--- src/lib.rt:69:20
 mul-cref : tie.Need-mul-cref Inv-loop μ-loop
-mul-cref c = ?
+mul-cref c = let t = turn c in omega (arith, t)
 
--- src/lib.rt:69:20
 slice-read-cref : tie.Need-slice-read-cref Inv-loop μ-loop
-slice-read-cref c = ?
+slice-read-cref c = let t = turn (c .before) in omega (arith, t)
 
--- src/lib.rt:70:9
 add-i : tie.Need-add-i Inv-loop μ-loop
-add-i c = ?
+add-i c = let t = turn (c .before) in omega (arith, t)
 
--- src/lib.rt:71:21
 cast-place : tie.Need-cast-place Inv-loop μ-loop
-cast-place c = ?
+cast-place c = let t = turn (c .before) in omega (arith, t)
 
--- src/lib.rt:71:21
 add-place : tie.Need-add-place Inv-loop μ-loop
-add-place c = ?
+add-place c = let t = turn (c .before) in omega (arith, t)
 
--- src/lib.rt:72:20
 mul-head : tie.Need-mul-head Inv-loop μ-loop
-mul-head c = ?
+mul-head c = let t = turn (c .before) in omega (arith, t)
 
--- src/lib.rt:72:20
 slice-read-head : tie.Need-slice-read-head Inv-loop μ-loop
-slice-read-head c = ?
+slice-read-head c = let t = turn (c .before .before) in omega (arith, t)
 
--- src/lib.rt:73:12
 active-of-requires : tie.Need-active-of-requires Inv-loop μ-loop
-active-of-requires c κs = ?
+active-of-requires c κs = search needs
 
--- src/lib.rt:74:28
 with-active-requires : tie.Need-with-active-requires Inv-loop μ-loop
-with-active-requires c κs = ?
+with-active-requires c κs = search needs
 
--- src/lib.rt:74:13
 mul-words : tie.Need-mul-words Inv-loop μ-loop
-mul-words c = ?
+mul-words c = let t = turn (c .before .before .before .before .before) in omega (arith, t)
 
--- src/lib.rt:74:13
 slice-write-words : tie.Need-slice-write-words Inv-loop μ-loop
-slice-write-words c = ?
+slice-write-words c = let t = turn (c .before .before .before .before .before) in omega (arith, t)
 
--- src/lib.rt:75:13
 mul-mid : tie.Need-mul-mid Inv-loop μ-loop
-mul-mid c = ?
+mul-mid c = let t = turn (c .before .before .before .before .before) in omega (arith, t)
 
--- src/lib.rt:75:13
 slice-write-mid : tie.Need-slice-write-mid Inv-loop μ-loop
-slice-write-mid c = ?
+slice-write-mid c = let t = turn (c .before .before .before .before .before) in omega (arith, t)
 
--- src/lib.rt:76:13
 add-kept : tie.Need-add-kept Inv-loop μ-loop
-add-kept c = ?
+add-kept c = let t = turn (c .before .before .before .before .before) in omega (arith, t)
 
--- src/lib.rt:68:5
 loop-less : tie.Need-loop-less Inv-loop μ-loop
-loop-less c = ?
+loop-less c = omega arith
 
--- src/lib.rt:68:5
 loop-again : tie.Need-loop-again Inv-loop μ-loop
-loop-again c = ?
+loop-again c = λ h b.
+    let g = c .before .before .before .before .before in
+    let d = g .before in
+    let m = d .before .before .before .before .before .clean in
+    let s = d .before .before .before .before .before .before .before .before .before .before .before .before .before .before .before .before .before in
+    let active = sym (c .before .before .active-of .ensures) ∙ c .before .if1 .taken in
+    subst (λ (x : ℕ). Sweep h (m .result) (m .last .1 .0) (s .args .local .now) (set (d .loop .words) (at (d .loop .mid) (d .loop .i) + 1) x) (set (d .loop .mid) (d .loop .kept) (at (d .loop .mid) (d .loop .i))) (d .loop .local) (d .loop .counts) (d .loop .i + 1) (d .loop .kept + 1) (d .loop .locals))
+    (sym (c .with-active .ensures))
+    (sweep-keep h (m .result) (m .last .1 .0) (s .args .local .now) (d .loop .words) (d .loop .mid) (d .loop .local) (d .loop .counts) (d .loop .i) (d .loop .kept) (d .loop .locals) (b .fit) (d .loop .inv h b) (g .loop-test .taken) active)
 
--- src/lib.rt:78:28
 with-tier-requires : tie.Need-with-tier-requires Inv-loop μ-loop
-with-tier-requires c κs = ?
+with-tier-requires c κs = omega arith
 
--- src/lib.rt:78:13
 mul-words-2 : tie.Need-mul-words-2 Inv-loop μ-loop
-mul-words-2 c = ?
+mul-words-2 c = let t = turn (c .before .before .before .before .before) in omega (arith, t)
 
--- src/lib.rt:78:13
 slice-write-words-2 : tie.Need-slice-write-words-2 Inv-loop μ-loop
-slice-write-words-2 c = ?
+slice-write-words-2 c = let t = turn (c .before .before .before .before .before) in omega (arith, t)
 
--- src/lib.rt:79:13
 mul-local : tie.Need-mul-local Inv-loop μ-loop
-mul-local c = ?
+mul-local c = let t = turn (c .before .before .before .before .before) in omega (arith, t)
 
--- src/lib.rt:79:13
 slice-write-local : tie.Need-slice-write-local Inv-loop μ-loop
-slice-write-local c = ?
+slice-write-local c =
+    let g = c .before .before .before .before .before in
+    let d = g .before in
+    let m = d .before .before .before .before .before .clean in
+    let s = d .before .before .before .before .before .before .before .before .before .before .before .before .before .before .before .before .before in
+    let inactive = sym (c .before .before .active-of .ensures) ∙ c .before .if1 .left in
+    local-room (held s) (m .result) (m .last .1 .0) (s .args .local .now) (d .loop .words) (d .loop .mid) (d .loop .local) (d .loop .counts) (d .loop .i) (d .loop .kept) (d .loop .locals) (begun d .fit) (swept d) (g .loop-test .taken) inactive (begun d .room)
 
--- src/lib.rt:80:13
 add-locals : tie.Need-add-locals Inv-loop μ-loop
-add-locals c = ?
+add-locals c = let t = turn (c .before .before .before .before .before) in omega (arith, t)
 
--- src/lib.rt:81:25
 array-read-counts : tie.Need-array-read-counts Inv-loop μ-loop
-array-read-counts c = ?
+array-read-counts c = omega arith
 
--- src/lib.rt:81:25
 sub-counts : tie.Need-sub-counts Inv-loop μ-loop
-sub-counts c = ?
+sub-counts c =
+    let g = c .before .before .before .before .before in
+    let d = g .before in
+    let m = d .before .before .before .before .before .clean in
+    let s = d .before .before .before .before .before .before .before .before .before .before .before .before .before .before .before .before .before in
+    let z = one-there (held s) (m .result) (m .last .1 .0) (s .args .local .now) (d .loop .words) (d .loop .mid) (d .loop .local) (d .loop .counts) (d .loop .i) (d .loop .kept) (d .loop .locals) (begun d .fit) (swept d) (g .loop-test .taken) in
+    omega arith
 
--- src/lib.rt:81:13
 array-write-counts : tie.Need-array-write-counts Inv-loop μ-loop
-array-write-counts c = ?
+array-write-counts c = omega arith
 
--- src/lib.rt:82:25
 array-read-counts-2 : tie.Need-array-read-counts-2 Inv-loop μ-loop
-array-read-counts-2 c = ?
+array-read-counts-2 c = omega arith
 
--- src/lib.rt:82:25
 add-counts : tie.Need-add-counts Inv-loop μ-loop
-add-counts c = ?
+add-counts c =
+    let g = c .before .before .before .before .before in
+    let d = g .before in
+    let m = d .before .before .before .before .before .clean in
+    let s = d .before .before .before .before .before .before .before .before .before .before .before .before .before .before .before .before .before in
+    let r = ready s in
+    let few = counts-few (s .args .s) (s .args .words .now) (s .args .clauses .now) (s .args .irred .now) (s .args .core .now) (s .args .mid .now) (s .args .local .now) (tier-lengths s) (count-lengths s) (s .pre .0) (m .last .1 .0) (d .loop .words) (d .loop .mid) (d .loop .local) (d .loop .counts) (m .result) (d .loop .i) (d .loop .kept) (d .loop .locals) (swept d) (r .listed) 3 (omega arith) in
+    let a = less-other (d .loop .counts) 2 3 (λ q. omega arith) in
+    let b = r .listed in
+    let e = r .clauses-most in
+    omega arith
 
--- src/lib.rt:82:13
 array-write-counts-2 : tie.Need-array-write-counts-2 Inv-loop μ-loop
-array-write-counts-2 c = ?
+array-write-counts-2 c = omega arith
 
--- src/lib.rt:68:5
 loop-less-2 : tie.Need-loop-less-2 Inv-loop μ-loop
-loop-less-2 c = ?
+loop-less-2 c = omega arith
 
--- src/lib.rt:68:5
 loop-again-2 : tie.Need-loop-again-2 Inv-loop μ-loop
-loop-again-2 c = ?
+loop-again-2 c = λ h b.
+    let g = c .before .before .before .before .before in
+    let d = g .before in
+    let m = d .before .before .before .before .before .clean in
+    let s = d .before .before .before .before .before .before .before .before .before .before .before .before .before .before .before .before .before in
+    let inactive = sym (c .before .before .active-of .ensures) ∙ c .before .if1 .left in
+    subst (λ (x : ℕ). Sweep h (m .result) (m .last .1 .0) (s .args .local .now) (set (d .loop .words) (at (d .loop .mid) (d .loop .i) + 1) x) (d .loop .mid) (set (d .loop .local) (d .loop .locals) (at (d .loop .mid) (d .loop .i))) (more 3 (less 2 (d .loop .counts))) (d .loop .i + 1) (d .loop .kept) (d .loop .locals + 1))
+    (sym (c .with-tier .ensures))
+    (sweep-move h (m .result) (m .last .1 .0) (s .args .local .now) (d .loop .words) (d .loop .mid) (d .loop .local) (d .loop .counts) (d .loop .i) (d .loop .kept) (d .loop .locals) (b .fit) (d .loop .inv h b) (g .loop-test .taken) inactive (b .room))
 
--- src/lib.rt:85:5
 clear-requires : tie.Need-clear-requires Inv-loop μ-loop
-clear-requires c κs = ?
+clear-requires c κs =
+    let d = c .before .before in
+    let m = d .before .before .before .before .before .clean in
+    let s = d .before .before .before .before .before .before .before .before .before .before .before .before .before .before .before .before .before in
+    let r = ready s in
+    let w = swept d in
+    let long : length (m .last .1 .0) ≡ length (s .args .mid .now) = m .kept .1 .0 in
+    let a = w .kept-le in
+    let b = w .i-le in
+    let e = m .ensures .0 .few in
+    let f = w .mid-len in
+    let g = r .mid-used in
+    (omega arith, omega arith)
 
--- src/lib.rt:86:5
 array-write-lens : tie.Need-array-write-lens Inv-loop μ-loop
-array-write-lens c = ?
+array-write-lens c = omega arith
 
--- src/lib.rt:87:5
 array-write-lens-2 : tie.Need-array-write-lens-2 Inv-loop μ-loop
-array-write-lens-2 c = ?
+array-write-lens-2 c = omega arith
 
--- src/lib.rt:45:1
 same-length : tie.Need-same-length Inv-loop μ-loop
-same-length c = ?
+same-length c =
+    let d = c .before .before .before .before .before in
+    let m = d .before .before .before .before .before .clean in
+    let s = d .before .before .before .before .before .before .before .before .before .before .before .before .before .before .before .before .before in
+    let r = ready s in
+    let w = swept d in
+    let e = w .words-len in
+    let f = same-words (s .args .s) (s .args .words .now) (s .args .clauses .now) (s .args .irred .now) (s .args .core .now) (s .args .mid .now) (s .args .local .now) in
+    omega arith
 
--- src/lib.rt:45:1
 same-length-2 : tie.Need-same-length-2 Inv-loop μ-loop
-same-length-2 c = ?
+same-length-2 c =
+    let d = c .before .before .before .before .before in
+    let m = d .before .before .before .before .before .clean in
+    let s = d .before .before .before .before .before .before .before .before .before .before .before .before .before .before .before .before .before in
+    let r = ready s in
+    let w = swept d in
+    let long : length (m .last .1 .0) ≡ length (s .args .mid .now) = m .kept .1 .0 in
+    let e = w .mid-len in
+    let f : length (c .before .before .clear .last .0) ≡ length (d .loop .mid) = c .before .before .clear .kept .0 in
+    omega arith
 
--- src/lib.rt:45:1
 same-length-3 : tie.Need-same-length-3 Inv-loop μ-loop
-same-length-3 c = ?
+same-length-3 c =
+    let d = c .before .before .before .before .before in
+    let m = d .before .before .before .before .before .clean in
+    let s = d .before .before .before .before .before .before .before .before .before .before .before .before .before .before .before .before .before in
+    let r = ready s in
+    let w = swept d in
+    let e = w .local-len in
+    omega arith
 
--- src/lib.rt:45:1
 returns : tie.Need-returns Inv-loop μ-loop
-returns c = ?
+returns c =
+    let d = c .before .before .before .before .before in
+    let m = d .before .before .before .before .before .clean in
+    let s = d .before .before .before .before .before .before .before .before .before .before .before .before .before .before .before .before .before in
+    let r = ready s in
+    let w = swept d in
+    let long : length (m .last .1 .0) ≡ length (s .args .mid .now) = m .kept .1 .0 in
+    mids-laid (s .args .s) (s .args .words .now) (s .args .clauses .now) (s .args .irred .now) (s .args .core .now) (s .args .mid .now) (s .args .local .now) (tier-lengths s) (count-lengths s) r (m .result) (m .last .1 .0) (d .loop .words) (d .loop .mid) (d .loop .local) (d .loop .counts) (d .loop .i) (d .loop .kept) (d .loop .locals) (m .ensures .0) long w (c .before .before .before .before .loop-test .left) (c .before .before .clear .last .0) (c .before .before .clear .ensures) (s .pre .0)
 
 pub mids-spec : {M : Type 1} → statement M
 mids-spec =
