@@ -12,4 +12,5 @@ pub mod Entries
 pub mod Sums
 pub mod Tests
 pub mod Walks
+pub mod SortLengths
 pub mod Subsets

@@ -63,3 +63,26 @@ pub fill-grown : (buf now : List ℕ) (n k : ℕ) → n ≤ k → k ≤ length n
 fill-grown buf now n k h g e =
     let t : length (take k now) ≡ k = length-take-le k now g in
     sym (fill-more buf n (take k now) (omega arith) ∙ ap (λ (x : ℕ). take k now ++ drop x buf) t ∙ ap (λ (l : List ℕ). take k now ++ l) (sym e) ∙ take-append-drop k now)
+
+-- the same where the list of Local alone changes
+pub local-fills : (ns : List ℕ) (irred core mid local l : List ℕ) → Within ns (irred ∷ core ∷ mid ∷ local ∷ [])
+    → irred ∷ core ∷ mid ∷ fill local (at ns 3) l ∷ []
+    ≡ fillEach (irred ∷ core ∷ mid ∷ local ∷ []) ns (listAt (takeEach ns (irred ∷ core ∷ mid ∷ local ∷ [])) 0 ∷ listAt (takeEach ns (irred ∷ core ∷ mid ∷ local ∷ [])) 1 ∷ listAt (takeEach ns (irred ∷ core ∷ mid ∷ local ∷ [])) 2 ∷ l ∷ [])
+unfolding takeEach
+local-fills [] irred core mid local l w = absurd w
+local-fills (a ∷ []) irred core mid local l w = absurd (w .1)
+local-fills (a ∷ b ∷ []) irred core mid local l w = absurd (w .1 .1)
+local-fills (a ∷ b ∷ c ∷ []) irred core mid local l w = absurd (w .1 .1 .1)
+local-fills (a ∷ b ∷ c ∷ d ∷ []) irred core mid local l w = ap (λ (x : List ℕ). irred ∷ core ∷ x ∷ fill local d l ∷ []) (sym (fill-same mid c (w .1 .1 .0))) ∙ four-fills (a ∷ b ∷ c ∷ d ∷ []) irred core mid local (take c mid) l w
+local-fills (a ∷ b ∷ c ∷ d ∷ e ∷ ns) irred core mid local l w = absurd (w .1 .1 .1 .1)
+
+pub local-lengths : (ns : List ℕ) (irred core mid local l : List ℕ) → Within ns (irred ∷ core ∷ mid ∷ local ∷ [])
+    → set ns 3 (length l)
+    ≡ lengths (listAt (takeEach ns (irred ∷ core ∷ mid ∷ local ∷ [])) 0 ∷ listAt (takeEach ns (irred ∷ core ∷ mid ∷ local ∷ [])) 1 ∷ listAt (takeEach ns (irred ∷ core ∷ mid ∷ local ∷ [])) 2 ∷ l ∷ [])
+unfolding lengths takeEach
+local-lengths [] irred core mid local l w = absurd w
+local-lengths (a ∷ []) irred core mid local l w = absurd (w .1)
+local-lengths (a ∷ b ∷ []) irred core mid local l w = absurd (w .1 .1)
+local-lengths (a ∷ b ∷ c ∷ []) irred core mid local l w = absurd (w .1 .1 .1)
+local-lengths (a ∷ b ∷ c ∷ d ∷ []) irred core mid local l w = λ i. sym (length-take-le a irred (w .0)) i ∷ sym (length-take-le b core (w .1 .0)) i ∷ sym (length-take-le c mid (w .1 .1 .0)) i ∷ length l ∷ []
+local-lengths (a ∷ b ∷ c ∷ d ∷ e ∷ ns) irred core mid local l w = absurd (w .1 .1 .1 .1)
