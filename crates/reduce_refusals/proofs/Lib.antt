@@ -1,1 +1,3 @@
 pub mod MidsRoom
+pub mod Lines
+pub mod Going
