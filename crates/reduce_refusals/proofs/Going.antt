@@ -2,19 +2,19 @@
 use mathlib.Core.Path.{_≡_, refl, sym, ap, ap₂, _∙_, subst}
 use mathlib.Core.Bool.{Bool, true, false, not, _&&_}
 use mathlib.Core.List.{List}
-use Prim.Native.Nat.{ℕ, _+_, _*_, _^_, _≤_, _<_}
+use Prim.Native.Nat.{ℕ, zero, suc, _+_, _-_, _*_, _^_, _≤_, _<_}
 use native.Mathlib.Omega.{arith}
 use lib.Dec.{eqb, ltb}
-use borrow.Author.Tests.{eq-eqb, ne-eqb}
+use borrow.Author.Tests.{eq-eqb, ne-eqb, le-ltb}
 use Rattle.laws.specs.Fold.{one, countBelow, sumBelow}
 use Rattle.laws.specs.Lists.{at}
-use Rattle.laws.proofs.Folds.{count-more}
+use Rattle.laws.proofs.Folds.{count-more, and-fails-right}
 use Rattle.laws.proofs.Sums.{sum-more}
 use Rattle.kinds.specs.Header.{deletedOf, tierOf}
 use Rattle.kinds.specs.Clauses.{headAt, lenAt, tierAt, deletedAt}
 use Rattle.calls.specs.Reducing.{sortKey}
 use Rattle.asserting.specs.Reads.{assertingIn}
-use Rattle.reduce_refusals.specs.Counted.{goer, goes, goesAt, lineAt}
+use Rattle.reduce_refusals.specs.Counted.{goer, goes, goesAt, lineAt, Rising}
 
 module _ (w values kinds reasons : List ℕ) (key o : ℕ) {d : Bool} (de : d ≡ eqb (deletedOf (headAt w o)) 1) where
   pub stays-deleted : d ≡ true → false ≡ goes w values kinds reasons key o
@@ -97,3 +97,36 @@ module _ (w values kinds reasons : List ℕ) (key : ℕ) (l : List ℕ) (n : ℕ
       let f = I .few in
       let e : i ≡ n = omega arith in
       (I .counted ∙ ap (countBelow (goesAt w values kinds reasons key l)) e, I .measured ∙ ap (sumBelow (lineAt w values kinds reasons key l)) e)
+
+-- ---- halving: fewer than half go below the lower bound, more than half below the higher one
+
+none-counted : (f : ℕ → Bool) (n : ℕ) → ((i : ℕ) → f i ≡ false) → countBelow f n ≡ 0
+unfolding countBelow
+none-counted f zero h = refl
+none-counted f (suc n) h = let a = none-counted f n h in let b = ap one (h n) in omega arith
+
+pub record Between (w values kinds reasons l : List ℕ) (n half low high : ℕ) : Type 0 where
+  pub order : low < high
+  pub most : high ≤ 9223372036854775808
+  pub below : countBelow (goesAt w values kinds reasons low l) n ≤ half
+  pub above : half < countBelow (goesAt w values kinds reasons high l) n
+
+module _ (w values kinds reasons l : List ℕ) (n half : ℕ) where
+  pub bounds-start : half < countBelow (goesAt w values kinds reasons 9223372036854775808 l) n → Between w values kinds reasons l n half 0 9223372036854775808
+  unfolding goesAt goes
+  bounds-start h = record {
+    order = omega arith;
+    most = omega arith;
+    below = let e = none-counted (goesAt w values kinds reasons 0 l) n (λ i. and-fails-right (goer w values kinds reasons (at l i)) _ (le-ltb (sortKey w (at l i)) 0 (omega arith))) in omega arith;
+    above = h;
+  }
+
+  pub bounds-end : (low high : ℕ) → Between w values kinds reasons l n half low high → high - low ≤ 1 → Rising w values kinds reasons l n → countBelow (goesAt w values kinds reasons low l) n ≡ half
+  bounds-end low high I h r =
+      let o = I .order in
+      let b = I .below in
+      let a = I .above in
+      let e : high ≡ low + 1 = omega arith in
+      let s = r low in
+      let t : half < countBelow (goesAt w values kinds reasons (low + 1) l) n = subst (λ (x : ℕ). half < countBelow (goesAt w values kinds reasons x l) n) e a in
+      omega arith
