@@ -126,7 +126,10 @@ fn tally(
             lines += len + 2;
         }
     }
-    Gone { count: count, lines: lines }
+    Gone {
+        count: count,
+        lines: lines,
+    }
 }
 
 // A bound below which exactly `half` go. Keys are different, so that the count rises by one at a time.
@@ -150,7 +153,17 @@ fn bisect(
     let mut high: u64 = 9223372036854775808;
     while 1 < high - low {
         let middle = low + (high - low) / 2;
-        let found = tally(vars, words, clauses, n, values, kinds, reasons, levels, middle);
+        let found = tally(
+            vars,
+            words,
+            clauses,
+            n,
+            values,
+            kinds,
+            reasons,
+            levels,
+            middle,
+        );
         if found.count <= half {
             low = middle;
         } else {
@@ -185,15 +198,45 @@ pub fn refuse_reduce_locals(
     let counts = s.counts;
     let half = counts[3] / 2;
     let room = rec.len() - s.recorded;
-    let all = tally(s.vars, words, clauses, n, values, kinds, reasons, levels, 9223372036854775808);
+    let all = tally(
+        s.vars,
+        words,
+        clauses,
+        n,
+        values,
+        kinds,
+        reasons,
+        levels,
+        9223372036854775808,
+    );
     if all.lines <= room {
         return 0;
     }
     if all.count <= half {
         return 11;
     }
-    let key = bisect(s.vars, words, clauses, n, values, kinds, reasons, levels, half);
-    let gone = tally(s.vars, words, clauses, n, values, kinds, reasons, levels, key);
+    let key = bisect(
+        s.vars,
+        words,
+        clauses,
+        n,
+        values,
+        kinds,
+        reasons,
+        levels,
+        half,
+    );
+    let gone = tally(
+        s.vars,
+        words,
+        clauses,
+        n,
+        values,
+        kinds,
+        reasons,
+        levels,
+        key,
+    );
     if gone.lines <= room {
         return 0;
     }

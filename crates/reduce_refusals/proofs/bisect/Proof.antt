@@ -31,7 +31,7 @@ loop-less : tie.Need-loop-less Inv-loop μ-loop
 loop-less c = let l = c .before .before .before .before in let o = l .loop .inv .order in omega (arith, c .before .before .before .loop-test .taken)
 
 loop-again : tie.Need-loop-again Inv-loop μ-loop
-loop-again c = 
+loop-again c =
     let l = c .before .before .before .before in
     let i = l .loop .inv in
     let o = i .order in
@@ -44,7 +44,7 @@ loop-less-2 : tie.Need-loop-less-2 Inv-loop μ-loop
 loop-less-2 c = let l = c .before .before .before .before in let o = l .loop .inv .order in omega (arith, c .before .before .before .loop-test .taken)
 
 loop-again-2 : tie.Need-loop-again-2 Inv-loop μ-loop
-loop-again-2 c = 
+loop-again-2 c =
     let l = c .before .before .before .before in
     let i = l .loop .inv in
     let o = i .order in
@@ -55,7 +55,7 @@ loop-again-2 c =
     record { order = omega arith; most = omega arith; below = i .below; above = omega arith }
 
 returns : tie.Need-returns Inv-loop μ-loop
-returns c = 
+returns c =
     let l = c .before in
     let s = l .before .before .before .before .before .before .before in
     let a = s .args in

@@ -28,7 +28,7 @@ tier-of-requires : tie.Need-tier-of-requires
 tier-of-requires c κs = search needs
 
 returns-2 : tie.Need-returns-2
-returns-2 c = 
+returns-2 c =
     let t = c .before in
     let d = t .before .before in
     let s = d .before .before .before .before .before .before .before in
@@ -36,7 +36,7 @@ returns-2 c =
     stays-other (a .words .now) (a .values .now) (a .kinds .now) (a .reasons .now) (a .key) (a .offset) (d .deleted-of .ensures) (t .before .if1 .left) _ (t .tier-of .ensures .0) (c .if2 .taken)
 
 asserting-requires : tie.Need-asserting-requires
-asserting-requires c κs = 
+asserting-requires c κs =
     let t = c .before in
     let d = t .before .before in
     let s = d .before .before .before .before .before .before .before in
@@ -48,7 +48,7 @@ asserting-requires c κs =
     (l, (omega (arith, f, z .1), omega (arith, f, z .1), omega (arith, f, z .1), omega (arith, f, z .1)))
 
 returns-3 : tie.Need-returns-3
-returns-3 c = 
+returns-3 c =
     let t = c .before .before .before in
     let d = t .before .before in
     let s = d .before .before .before .before .before .before .before in
@@ -65,7 +65,7 @@ add-result : tie.Need-add-result
 add-result c = let z = c .before .before .before .before .before .before .before .before .before .before .before .before .before .pre in let w = z .0 .within in omega (arith, c .word .ensures .1, w, z .1 .0)
 
 returns-4 : tie.Need-returns-4
-returns-4 c = 
+returns-4 c =
     let t = c .before .before .before .before in
     let d = t .before .before in
     let s = d .before .before .before .before .before .before .before in

@@ -23,20 +23,20 @@ array-read-if1 : tie.Need-array-read-if1
 array-read-if1 c = search needs
 
 add-if1 : tie.Need-add-if1
-add-if1 c = 
+add-if1 c =
     let s = c .before .before .before .before .before .before .before .before in
     let z = mids-sizes (s .args .s) (s .args .words .now) (s .args .clauses .now) (s .args .irred .now) (s .args .core .now) (s .args .mid .now) (s .args .local .now) (tier-lengths s) (count-lengths s) (s .pre) in
     let b = count-le (inactiveAt (s .args .words .now) (s .args .clauses .now)) (s .args .s .clauses) in
     omega (arith, c .inactive-mids .ensures, b, z)
 
 returns : tie.Need-returns
-returns c = 
+returns c =
     let s = c .before .before .before .before .before .before .before .before .before in
     let e = c .before .inactive-mids .ensures in
     mids-fit (s .args .s) (s .args .words .now) (s .args .clauses .now) (s .args .irred .now) (s .args .core .now) (s .args .mid .now) (s .args .local .now) (tier-lengths s) (count-lengths s) (s .pre) (omega (arith, e, c .if1 .taken))
 
 returns-2 : tie.Need-returns-2
-returns-2 c = 
+returns-2 c =
     let s = c .before .before .before .before .before .before .before .before .before in
     let e = c .before .inactive-mids .ensures in
     mids-lack (s .args .s) (s .args .words .now) (s .args .clauses .now) (s .args .irred .now) (s .args .core .now) (s .args .mid .now) (s .args .local .now) (tier-lengths s) (count-lengths s) (s .pre) (omega (arith, e, c .if1 .left))

@@ -22,7 +22,7 @@ word-requires : tie.Need-word-requires Inv-loop μ-loop
 word-requires c κs = let l = c .before in omega (arith, l .before .before .before .before .before .before .before .pre .0 .0, c .loop-test .taken)
 
 add-i : tie.Need-add-i Inv-loop μ-loop
-add-i c = 
+add-i c =
     let g = c .before in
     let l = g .before in
     let s = l .before .before .before .before .before .before .before in
@@ -31,7 +31,7 @@ add-i c =
     omega (arith, s .pre .0 .1, g .loop-test .taken)
 
 goes-below-requires : tie.Need-goes-below-requires Inv-loop μ-loop
-goes-below-requires c κs = 
+goes-below-requires c κs =
     let g = c .before in
     let l = g .before in
     let s = l .before .before .before .before .before .before .before in
@@ -40,7 +40,7 @@ goes-below-requires c κs =
     (subst (λ (o : ℕ). ClauseIn (a .words .now) (a .vars) o) (sym (c .word .ensures .0)) (s .pre .0 .2 (r .i) (g .loop-test .taken)), s .pre .1)
 
 add-word : tie.Need-add-word Inv-loop μ-loop
-add-word c = 
+add-word c =
     let g = c .before .before .before in
     let l = g .before in
     let s = l .before .before .before .before .before .before .before in
@@ -50,7 +50,7 @@ add-word c =
     omega (arith, w, c .before .before .word .ensures .0, s .pre .1 .0)
 
 word-requires-2 : tie.Need-word-requires-2 Inv-loop μ-loop
-word-requires-2 c κs = 
+word-requires-2 c κs =
     let g = c .before .before .before in
     let l = g .before in
     let s = l .before .before .before .before .before .before .before in
@@ -60,7 +60,7 @@ word-requires-2 c κs =
     omega (arith, w, c .before .before .word .ensures .0)
 
 add-count : tie.Need-add-count Inv-loop μ-loop
-add-count c = 
+add-count c =
     let g = c .before .before .before .before in
     let l = g .before in
     let s = l .before .before .before .before .before .before .before in
@@ -73,7 +73,7 @@ add-lines : tie.Need-add-lines Inv-loop μ-loop
 add-lines c = omega (arith, c .word2 .ensures .1)
 
 add-lines-2 : tie.Need-add-lines-2 Inv-loop μ-loop
-add-lines-2 c = 
+add-lines-2 c =
     let g = c .before .before .before .before in
     let l = g .before in
     let s = l .before .before .before .before .before .before .before in
@@ -86,7 +86,7 @@ loop-less : tie.Need-loop-less Inv-loop μ-loop
 loop-less c = omega arith
 
 loop-again : tie.Need-loop-again Inv-loop μ-loop
-loop-again c = 
+loop-again c =
     let g = c .before .before .before .before in
     let l = g .before in
     let s = l .before .before .before .before .before .before .before in
@@ -98,7 +98,7 @@ loop-less-2 : tie.Need-loop-less-2 Inv-loop μ-loop
 loop-less-2 c = omega arith
 
 loop-again-2 : tie.Need-loop-again-2 Inv-loop μ-loop
-loop-again-2 c = 
+loop-again-2 c =
     let g = c .before .before .before in
     let l = g .before in
     let s = l .before .before .before .before .before .before .before in
@@ -107,7 +107,7 @@ loop-again-2 c =
     tally-stays (a .words .now) (a .values .now) (a .kinds .now) (a .reasons .now) (a .key) (a .clauses .now) (a .n) (r .i) (r .count) (r .lines) (r .inv) (g .loop-test .taken) _ (c .before .before .word .ensures .0) (c .before .goes-below .ensures) (c .if1 .left)
 
 returns : tie.Need-returns Inv-loop μ-loop
-returns c = 
+returns c =
     let l = c .before in
     let a = l .before .before .before .before .before .before .before .args in
     tally-end (a .words .now) (a .values .now) (a .kinds .now) (a .reasons .now) (a .key) (a .clauses .now) (a .n) (l .loop .i) (l .loop .count) (l .loop .lines) (l .loop .inv) (c .loop-test .left)
