@@ -15,3 +15,6 @@ pub mod Tests
 pub mod Totals
 pub mod Loops
 pub mod Values
+pub mod Walks
+pub mod SortLengths
+pub mod Subsets

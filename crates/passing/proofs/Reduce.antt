@@ -30,7 +30,7 @@ use Rattle.passing.proofs.Good.{Whole}
 -- ---- "Both drop stale and repeated entries, the first of equals staying."
 
 module _ (w : List ℕ) (t : ℕ) where
-  firsts-in : (os acc : List ℕ) (x : ℕ) → In x (foldList (keptFirst w t) acc os) → In x acc ⊎ (In x os × (stale w t x ≡ false))
+  pub firsts-in : (os acc : List ℕ) (x : ℕ) → In x (foldList (keptFirst w t) acc os) → In x acc ⊎ (In x os × (stale w t x ≡ false))
   unfolding foldList keptFirst
   firsts-in [] acc x m = inl m
   firsts-in (o ∷ os) acc x m = go (stale w t o || elem o acc) refl (firsts-in os (keptFirst w t acc o) x m)
@@ -53,7 +53,7 @@ module _ (w : List ℕ) (t : ℕ) where
       go true = m
       go false = in-left x acc (o ∷ []) m
 
-  in-firsts : (os acc : List ℕ) (x : ℕ) → In x os → stale w t x ≡ false → In x (foldList (keptFirst w t) acc os)
+  pub in-firsts : (os acc : List ℕ) (x : ℕ) → In x os → stale w t x ≡ false → In x (foldList (keptFirst w t) acc os)
   unfolding foldList keptFirst
   in-firsts [] acc x m s = absurd (elem-none x m)
   in-firsts (o ∷ os) acc x m s = pick (elem-cases x o os m) (in-firsts os (keptFirst w t acc o) x)
@@ -67,7 +67,7 @@ module _ (w : List ℕ) (t : ℕ) where
       pick (inl e) ih = firsts-keep os (keptFirst w t acc o) x (subst (λ (z : ℕ). In z (keptFirst w t acc o)) (sym e) (here (stale w t o) (elem o acc) (subst (λ (z : ℕ). stale w t z ≡ false) e s) refl))
       pick (inr q) ih = ih q s
 
-  firsts-distinct : (os acc : List ℕ) → Distinct acc → Distinct (foldList (keptFirst w t) acc os)
+  pub firsts-distinct : (os acc : List ℕ) → Distinct acc → Distinct (foldList (keptFirst w t) acc os)
   unfolding foldList keptFirst
   firsts-distinct [] acc d = d
   firsts-distinct (o ∷ os) acc d = firsts-distinct os (keptFirst w t acc o) (go (stale w t o) (elem o acc) refl)
@@ -77,21 +77,21 @@ module _ (w : List ℕ) (t : ℕ) where
       go false true e = d
       go false false e = distinct-snoc acc o d (λ m. true≢false (sym m ∙ e))
 
-fresh-deleted : (w : List ℕ) (t x : ℕ) → stale w t x ≡ false → deletedAt w x ≡ false
+pub fresh-deleted : (w : List ℕ) (t x : ℕ) → stale w t x ≡ false → deletedAt w x ≡ false
 fresh-deleted w t x e = go (deletedAt w x) refl
   where
     go : (b : Bool) → deletedAt w x ≡ b → b ≡ false
     go true q = absurd (true≢false (sym (ap (λ (z : Bool). z || not (eqb (tierAt w x) t)) q) ∙ e))
     go false q = refl
 
-fresh-tier : (w : List ℕ) (t x : ℕ) → stale w t x ≡ false → tierAt w x ≡ t
+pub fresh-tier : (w : List ℕ) (t x : ℕ) → stale w t x ≡ false → tierAt w x ≡ t
 fresh-tier w t x e = eqb-true (tierAt w x) t (not-false _ (sym (ap (λ (z : Bool). z || not (eqb (tierAt w x) t)) (fresh-deleted w t x e)) ∙ e))
 
-fresh : (w : List ℕ) (t x : ℕ) → deletedAt w x ≡ false → tierAt w x ≡ t → stale w t x ≡ false
+pub fresh : (w : List ℕ) (t x : ℕ) → deletedAt w x ≡ false → tierAt w x ≡ t → stale w t x ≡ false
 fresh w t x d e = ap₂ (λ (a b : Bool). a || not b) d (eq-eqb (tierAt w x) t e)
 
 -- the clauses of some entries are live and of tier t
-abbrev Ready : List ℕ → List ℕ → ℕ → List ℕ → Type 0
+abbrev pub Ready : List ℕ → List ℕ → ℕ → List ℕ → Type 0
 Ready w l t os = (x : ℕ) → In x os → Live w l x × (tierAt w x ≡ t)
 
 -- ---- tier t's list is emptied: those that stay are to be entered again
@@ -174,7 +174,7 @@ first-done : (o : ℕ) (os : List ℕ) → Still o (o ∷ os) os
 first-done o os x n m = ⊎-elim (λ e. absurd (n e)) (λ q. q) (elem-cases x o os m)
 
 -- word 1 of one clause changed: the others are as ready as before
-ready-rest : (w l : List ℕ) (t o : ℕ) (os : List ℕ) (f : ℕ → ℕ) → Ready w l t (o ∷ os) → (In o os → ⊥) → Ready (changeHead f o w) l t os
+pub ready-rest : (w l : List ℕ) (t o : ℕ) (os : List ℕ) (f : ℕ → ℕ) → Ready w l t (o ∷ os) → (In o os → ⊥) → Ready (changeHead f o w) l t os
 ready-rest w l t o os f r n x m =
     let e : headAt (changeHead f o w) x ≡ headAt w x = at-other w (o + 1) (f (headAt w o)) (x + 1) (λ q. n (subst (λ (z : ℕ). In z os) (same x o q) m)) in
     let a = r x (elem-later x o os m) in

@@ -1,0 +1,2 @@
+pub mod Sifting
+pub mod Draining
