@@ -60,6 +60,7 @@ pub record Small (o : ℕ) (s t : Held) : Type 0 where
   pub above : (p : ℕ) → endAt (s .words) o ≤ p → at (t .words) p ≡ at (s .words) p
   pub counts : (q : ℕ) → at (s .counts) q ≤ at (t .counts) q + one (not (deletedAt (s .words) o) && eqb (tierAt (s .words) o) q)
   pub sum : t .garbage ≤ s .garbage + one (not (deletedAt (s .words) o)) * sizeAt (s .words) o
+  pub binary : t .binary ≤ s .binary + 1
 
 less-at : (ts : List ℕ) (t : ℕ) → at ts t ≤ at (less t ts) t + 1
 less-at ts t = go (decLt t (length ts))
@@ -70,10 +71,10 @@ less-at ts t = go (decLt t (length ts))
 
 module _ (o : ℕ) (s : Held) where
   stays-small : (said ws : List ℕ) → length ws ≡ length (s .words) → ((p : ℕ) → endAt (s .words) o ≤ p → at ws p ≡ at (s .words) p) → Small o s (stays o said ws s)
-  stays-small said ws e f = record { size = e; above = f; counts = λ q. omega arith; sum = omega arith }
+  stays-small said ws e f = record { size = e; above = f; counts = λ q. omega arith; sum = omega arith; binary = omega arith }
 
-  gone-small : deletedAt (s .words) o ≡ false → (said : List ℕ) (rows : List (List ℕ)) (b : ℕ) → Small o s (gone o said rows b s)
-  gone-small d said rows b = record { size = simp length-set; above = λ p h. getD-set-other (s .words) (o + 1) p _ 0 (omega arith); counts = λ q. go q (ℕ-discrete q (tierAt (s .words) o)); sum = rw d (omega arith) }
+  gone-small : deletedAt (s .words) o ≡ false → (said : List ℕ) (rows : List (List ℕ)) (b : ℕ) → b ≤ s .binary + 1 → Small o s (gone o said rows b s)
+  gone-small d said rows b l = record { binary = l; size = simp length-set; above = λ p h. getD-set-other (s .words) (o + 1) p _ 0 (omega arith); counts = λ q. go q (ℕ-discrete q (tierAt (s .words) o)); sum = rw d (omega arith) }
     where
       go : (q : ℕ) → Dec (q ≡ tierAt (s .words) o) → at (s .counts) q ≤ at (less (tierAt (s .words) o) (s .counts)) q + one (not (deletedAt (s .words) o) && eqb (tierAt (s .words) o) q)
       go q (yes e) = rw (e, d, eq-eqb (tierAt (s .words) o) (tierAt (s .words) o) refl) (less-at (s .counts) (tierAt (s .words) o))
@@ -89,9 +90,9 @@ module _ (o : ℕ) (s : Held) where
   settle-small a d =
       let ls = litsAt (s .words) o in
       let r = unfalsified a ls in
-      either (Small o s) (anyTrue a ls) _ _ (gone-small d _ (s .rows) (s .binary))
+      either (Small o s) (anyTrue a ls) _ _ (gone-small d _ (s .rows) (s .binary) (omega arith))
       (either (Small o s) (eqb (length r) (length ls)) _ _ (stays-small [] (s .words) refl (λ p h. refl))
-      (either (Small o s) (eqb (length r) 2) _ _ (gone-small d _ (pairPushed (at r 0) (at r 1) (s .rows)) (s .binary + 1))
+      (either (Small o s) (eqb (length r) 2) _ _ (gone-small d _ (pairPushed (at r 0) (at r 1) (s .rows)) (s .binary + 1) (omega arith))
       (stays-small _ (sets (s .words) (o + 2) (length r ∷ r)) (length-sets (s .words) (o + 2) (length r ∷ r)) (shorter-above a))))
 
   pub one-small : (a : List ℕ) → Small o s (simOne a o s)
@@ -99,7 +100,7 @@ module _ (o : ℕ) (s : Held) where
   one-small a = go (deletedAt (s .words) o) refl
     where
       go : (b : Bool) → deletedAt (s .words) o ≡ b → Small o s (cond b s (settle a (litsAt (s .words) o) o s))
-      go true d = record { size = refl; above = λ p h. refl; counts = λ q. omega arith; sum = omega arith }
+      go true d = record { size = refl; above = λ p h. refl; counts = λ q. omega arith; sum = omega arith; binary = omega arith }
       go false d = settle-small a d
 
 -- ---- the walk
@@ -108,6 +109,7 @@ pub record Ahead (h : Held) (i : ℕ) : Type 0 where
   pub frame : (j : ℕ) → i ≤ j → j < length (h .clauses) → (p : ℕ) → at (h .clauses) j ≤ p → at (stateAt h i .words) p ≡ at (h .words) p
   pub counts : (t : ℕ) → at (h .counts) t ≤ at (stateAt h i .counts) t + countBelow (liveIn (h .words) (h .clauses) t) i
   pub sum : stateAt h i .garbage ≤ h .garbage + sumBelow (liveSize (h .words) (h .clauses)) i
+  pub binary : stateAt h i .binary ≤ h .binary + i
 
 module _ {h : Held} (R : Walkable h) where
   -- the clauses ahead start behind this one
@@ -160,8 +162,9 @@ module _ {h : Held} (R : Walkable h) where
               rw e (m .above p (omega (arith, end-is, rw z at (rise i g (j - (i + 1)) (omega arith)))) ∙ A .frame j (omega arith) l p q);
           counts = λ t. rw (e, count-up (liveIn (h .words) (h .clauses) t) i) (unfold liveIn in unfold liveAt in (omega (arith, A .counts t, rw head-same at (m .counts t))));
           sum = rw (e, sum-up (liveSize (h .words) (h .clauses)) i) (unfold liveSize in unfold liveAt in (omega (arith, A .sum, rw (head-same, len-same) at (m .sum))));
+          binary = rw e (omega (arith, A .binary, m .binary));
         }
 
   pub ahead : (i : ℕ) → i ≤ length (h .clauses) → Ahead h i
-  ahead zero g = record { size = rw (state-zero h) refl; frame = λ j b l p q. rw (state-zero h) refl; counts = λ t. rw (state-zero h) (omega arith); sum = rw (state-zero h) (omega arith) }
+  ahead zero g = record { size = rw (state-zero h) refl; frame = λ j b l p q. rw (state-zero h) refl; counts = λ t. rw (state-zero h) (omega arith); sum = rw (state-zero h) (omega arith); binary = rw (state-zero h) (omega arith) }
   ahead (suc i) g = rw (← add-one) (ahead-next i (omega arith) (ahead i (omega arith)))

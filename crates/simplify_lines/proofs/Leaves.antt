@@ -18,7 +18,7 @@ use Rattle.calls.specs.Simplifying.{unfalsified}
 
 pub dropped : (s : State) (ws : List ℕ) (o recorded t n w : ℕ) → t ≡ tierAt ws o → n ≡ lenAt ws o → w ≡ withDeleted true (headAt ws o)
     → (stateOf (s .vars) (s .words) (s .clauses) (s .tiers) recorded (less t (s .counts)) (s .garbage + (n + 3)) (s .binary) (s .activity)
-        ≡ stateOf (s .vars) (s .words) (s .clauses) (s .tiers) recorded (less (tierAt ws o) (s .counts)) (s .garbage + sizeAt ws o) (s .binary) (s .activity))
+    ≡ stateOf (s .vars) (s .words) (s .clauses) (s .tiers) recorded (less (tierAt ws o) (s .counts)) (s .garbage + sizeAt ws o) (s .binary) (s .activity))
     × (set ws (o + 1) w ≡ changeHead (withDeleted true) o ws)
 dropped s ws o recorded t n w a b c = (
   ap₂ (λ (x y : ℕ). stateOf (s .vars) (s .words) (s .clauses) (s .tiers) recorded (less x (s .counts)) (s .garbage + (y + 3)) (s .binary) (s .activity)) a b,

@@ -12,7 +12,10 @@ ghost use Rattle.kinds.specs.Clauses.{lenAt, litsAt, endAt, sizeAt, tierAt, ori
 ghost use Rattle.kinds.specs.Lines.{line, lineWords, entryKind};
 ghost use Rattle.kinds.specs.Setters.{stateOf, withRecorded, withBinaryCount, withListed};
 ghost use Rattle.calls.specs.Simplifying.{unfalsified, verdictOf};
-use kinds::{Lit, LitValue, State, Verdict};
+use kinds::Lit;
+use kinds::LitValue;
+use kinds::State;
+use kinds::Verdict;
 
 // The literals that are not false, of the n from `start` on, over the words of `to` from `place` on.
 pub fn copy_unfalsified(

@@ -35,7 +35,7 @@ array-read-counts : tie.Need-array-read-counts
 array-read-counts c = search needs
 
 sub-counts : tie.Need-sub-counts
-sub-counts c = 
+sub-counts c =
     let s = c .before .before .before .before .before .before .before .before in
     omega (arith, s .pre .1, ap (at (s .args .s .counts)) (c .before .before .before .before .before .tier-of .ensures .0))
 
@@ -67,7 +67,7 @@ same-length : tie.Need-same-length
 same-length c = search needs
 
 returns : tie.Need-returns
-returns c = 
+returns c =
     let a = c .before .before .before .before .before .before .before .before .before .before .args in
     dropped (a .s) (a .words .now) (a .offset) (a .recorded) _ _ _ (c .before .before .before .before .before .before .before .tier-of .ensures .0) (c .before .before .before .before .before .word .ensures .0) (c .before .with-deleted .ensures)
 

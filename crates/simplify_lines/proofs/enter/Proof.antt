@@ -52,7 +52,7 @@ add-copy-unfalsified-2 : tie.Need-add-copy-unfalsified-2
 add-copy-unfalsified-2 c = search needs
 
 copy-unfalsified-requires : tie.Need-copy-unfalsified-requires
-copy-unfalsified-requires c κs = 
+copy-unfalsified-requires c κs =
     let s = c .before .before .before .before .before .before .before .before in
     rw (c .before .before .before .before .word .ensures .0) (omega (arith, s .pre .0 .0), (simp length-set (omega (arith, s .pre .0 .1, s .pre .0 .2)), s .pre .1))
 
@@ -66,7 +66,7 @@ same-length : tie.Need-same-length
 same-length c = c .before .before .copy-unfalsified .kept .0 ∙ simp length-set
 
 returns : tie.Need-returns
-returns c = 
+returns c =
     let a = c .before .before .before .before .before .before .before .before .before .before .before .args in
     (refl, entered (a .rec .now) _ (a .values .now) (a .words .now) (a .offset) (a .used) (a .m) _ _ _ (c .before .before .before .before .before .tier-of .ensures .0) (c .before .before .before .before .before .before .before .word .ensures .0) (c .before .before .before .before .entry-kind .ensures) (c .before .before .copy-unfalsified .ensures))
 

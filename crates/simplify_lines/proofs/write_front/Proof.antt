@@ -28,7 +28,7 @@ same-length : tie.Need-same-length
 same-length c = c .before .before .copy .kept .0 ∙ simp length-set
 
 returns : tie.Need-returns
-returns c = 
+returns c =
     let a = c .before .before .before .before .before .before .args in
     front (a .words .now) _ (a .offset) (a .m) (readN (a .rec .now) (a .start) (a .m)) (c .before .before .copy .ensures)
 
