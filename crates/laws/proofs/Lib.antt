@@ -6,3 +6,4 @@ pub mod Sorting
 pub mod Writing
 pub mod Entries
 pub mod Sums
+pub mod Closing

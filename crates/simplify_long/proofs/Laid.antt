@@ -9,7 +9,8 @@ use native.Mathlib.Nat.{le-trans}
 use lib.ListN.{length, set, take, drop, replicate, length-set, length-append, length-replicate, take-append-drop}
 use lib.Seq.{sets, sets-eq, length-sets, take-suc-set, length-take-le}
 use Rattle.laws.specs.Lists.{at, listAt, snoc, less, more, push, lengths, fill}
-use Rattle.laws.proofs.Fills.{fill-append, fill-same, fill-fill}
+use Rattle.laws.proofs.Fills.{fill-same}
+use Rattle.laws.proofs.Closing.{fill-sets, closed}
 use Rattle.kinds.specs.Header.{withDeleted}
 use Rattle.kinds.specs.Clauses.{tierAt, sizeAt, changeHead, neg}
 use Rattle.kinds.specs.Lent.{Lent, Host, roomOf}
@@ -18,7 +19,7 @@ use Rattle.kinds.specs.Layout.{rowsOf, fillRows, side, view, layState, layHost,
 use Rattle.kinds.specs.Setters.{stateOf, withListed, withRecorded, withBinaryCount}
 use Rattle.kinds.specs.declared.State.{State}
 use Rattle.kinds.specs.declared.ClauseActivity.{ClauseActivity}
-use Rattle.kinds.proofs.Layouts.{Sized, AllFit, list-laid, length-fill, rows-fill}
+use Rattle.kinds.proofs.Layouts.{Sized, AllFit, rows-fill}
 use Rattle.kinds.proofs.RowLayout.{Growing, lengths-rows, length-lengths, at-lengths, lengths-push, rows-same, rows-again}
 use Rattle.calls.specs.Adding.{pairPushed}
 use Rattle.simplify_lines.specs.Walk.{walkParts}
@@ -39,15 +40,6 @@ pub record Laid (k : Lent) (s : Held) (to : ℕ) (words list rows counts rec : L
   pub counts-is : counts ≡ lengths (s .rows)
   pub rec-is : rec ≡ fill (k .rec) (k .state .recorded) (s .rec)
   pub state-is : st ≡ walkState k s
-
--- numbers behind what a filled buffer holds
-pub fill-sets : (buf : List ℕ) (n : ℕ) (xs ys : List ℕ) → n ≤ length buf → length xs + length ys ≤ length buf → sets (fill buf n xs) (length xs) ys ≡ fill buf n (xs ++ ys)
-fill-sets buf n xs ys b h =
-    let l = length-fill buf n xs b (omega arith) in
-    let e = length-append xs ys in
-    sym (fill-append (fill buf n xs) (length xs) ys (omega arith))
-    ∙ ap (λ (z : List ℕ). fill (fill buf n xs) (length xs) (z ++ ys)) (list-laid true buf n xs)
-    ∙ fill-fill buf n xs (xs ++ ys) b (omega arith) (omega arith)
 
 module _ {k : Lent} {s : Held} {to : ℕ} {words list rows counts rec : List ℕ} {st : State} (L : Laid k s to words list rows counts rec st) (g : k .state .recorded ≤ length (k .rec)) where
   pub recorded-is : st .recorded ≡ length (s .rec)
@@ -131,15 +123,6 @@ laid-start k z g = record {
 }
 
 -- ---- the end: what the list gives up becomes 0
-closed : (l₀ l cl : List ℕ) (n to : ℕ) → to ≤ n → n ≤ length l → to ≡ length cl → take to l ≡ cl → drop n l ≡ drop n l₀ → sets l to (replicate (n - to) 0) ≡ fill l₀ n cl
-unfolding fill
-closed l₀ l cl n to h k e t d =
-    let zs : List ℕ = replicate (n - to) 0 in
-    let q : length zs ≡ n - to = length-replicate (n - to) 0 in
-    let m : max n (length cl) ≡ n = omega arith in
-    let r : to + length zs ≡ n = omega arith in
-    sets-eq zs l to (omega arith) ∙ rw (r, t, d, m, e) (append-assoc cl (replicate (n - length cl) 0) (drop n l₀))
-
 pub laid-end : {k : Lent} {s : Held} {to : ℕ} {words list rows counts rec : List ℕ} {st : State} → Laid k s to words list rows counts rec st → Grows (withClauses [] (view k)) s
     → to ≤ k .state .clauses → k .state .clauses ≤ length list → drop (k .state .clauses) list ≡ drop (k .state .clauses) (k .clauses)
     → {list′ : List ℕ} → list′ ≡ sets list to (replicate (k .state .clauses - to) 0) → {st′ : State} → st′ ≡ withListed to st

@@ -12,6 +12,7 @@ use lib.Dec.{eqb}
 use borrow.Author.Tests.{eq-eqb, ne-eqb}
 use Rattle.laws.specs.Lists.{at, listAt, readN, snoc, less, more, lengths}
 use Rattle.laws.proofs.Reading.{length-read, read-same, read-whole, at-sets}
+use Rattle.laws.proofs.Closing.{sets-append}
 use Rattle.kinds.specs.Header.{withDeleted}
 use Rattle.kinds.specs.Clauses.{deletedAt, litsAt, lenAt, endAt, sizeAt, tierAt, headAt, originalAt, changeHead, neg, varOf}
 use Rattle.kinds.specs.Lines.{line, lineWords, strikeKind, entryKind}
@@ -52,10 +53,6 @@ same-next l m i e = sym (front l) ∙ ap (λ (r : List ℕ). at r 0) e ∙ front
 
 same-rest : (l m : List ℕ) (i : ℕ) → drop i l ≡ drop i m → drop (i + 1) l ≡ drop (i + 1) m
 same-rest l m i e = sym (drop-drop 1 i l) ∙ ap (drop 1) e ∙ drop-drop 1 i m
-
-sets-append : (l : List ℕ) (i : ℕ) (xs ys : List ℕ) → sets (sets l i xs) (i + length xs) ys ≡ sets l i (xs ++ ys)
-sets-append l i [] ys = rw add-zero
-sets-append l i (x ∷ xs) ys = let e : i + suc (length xs) ≡ suc i + length xs = omega arith in rw e (sets-append (set l i x) (suc i) xs ys)
 
 short-said : (r : List ℕ) (o : ℕ) (s : Held) → shorten r o s .rec ≡ s .rec ++ shortLines r o (s .words)
 short-said r o s = either (λ (x : Held). x .rec ≡ s .rec ++ shortLines r o (s .words)) (eqb (length r) 2)
