@@ -30,7 +30,7 @@ drop-next m buf c = drop-drop m (c * m) buf ∙ ap (λ (k : ℕ). drop k buf) (s
 counts-next : (ns : List ℕ) (c : ℕ) → c < length ns → drop c ns ≡ at ns c ∷ drop (c + 1) ns
 counts-next ns c h = drop-cons ns c 0 h ∙ ap (λ (k : ℕ). at ns c ∷ drop k ns) (sym (add-one c))
 
-flat-append : (xs ys : List Line) → flat (xs ++ ys) ≡ flat xs ++ flat ys
+pub flat-append : (xs ys : List Line) → flat (xs ++ ys) ≡ flat xs ++ flat ys
 unfolding flat
 flat-append [] ys = refl
 flat-append (x ∷ xs) ys = ap (λ (l : List ℕ). lineWords x ++ l) (flat-append xs ys) ∙ sym (append-assoc (lineWords x) (flat xs) (flat ys))

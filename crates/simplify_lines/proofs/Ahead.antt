@@ -38,7 +38,7 @@ count-up : (f : ℕ → Bool) (i : ℕ) → countBelow f (i + 1) ≡ countBelow 
 unfolding countBelow
 count-up f i = rw add-one
 
-sum-up : (f : ℕ → ℕ) (i : ℕ) → sumBelow f (i + 1) ≡ sumBelow f i + f i
+pub sum-up : (f : ℕ → ℕ) (i : ℕ) → sumBelow f (i + 1) ≡ sumBelow f i + f i
 unfolding sumBelow
 sum-up f i = rw add-one
 
