@@ -1,2 +1,4 @@
 pub mod Reasons
 pub mod Leaf
+pub mod Trail
+pub mod Step

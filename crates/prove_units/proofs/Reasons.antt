@@ -3,7 +3,7 @@ use mathlib.Core.Path.{_≡_, refl, sym, ap, ap₂, _∙_, subst}
 use mathlib.Core.Bool.{Bool, true, false, cond}
 use mathlib.Core.Logic.{⊎-elim, _⊎_}
 use mathlib.Core.List.{List, [], _∷_, _++_}
-use Prim.Native.Nat.{ℕ, zero, suc, _+_, _-_, _*_, _≤_, _<_}
+use Prim.Native.Nat.{ℕ, zero, suc, _+_, _-_, _*_, _^_, _≤_, _<_}
 use native.Mathlib.Omega.{arith}
 use native.Mathlib.Numerals.{add-one, add-two}
 use denote.Enum.Declared.{tagOf}
@@ -86,6 +86,13 @@ module _ (ws : List ℕ) (l : ℕ) where
       let y : used + 2 ≡ suc (suc used) = omega arith in
       let z : used + 3 ≡ suc (suc (suc used)) = omega arith in
       (omega (arith, ap length (line-binary r b e)), rw (x, y, z) (ap (sets rec used) (sym (line-binary r b e))))
+
+pub line-small : (ws : List ℕ) (r : Reason) (l : ℕ) → ReasonIn ws r → length ws ≤ 2 ^ 24 → length (reasonLine ws r l) ≤ 2 ^ 25
+line-small ws None l i h = omega arith
+line-small ws UnitReason l i h = omega arith
+line-small ws (Binary b) l i h = omega arith
+line-small ws (Long c) l i h = omega (arith, long-size ws l (Long c) c refl i, i .0)
+line-small ws Removed l i h = omega arith
 
 -- ---- the reason of a kind byte from 1 to 3
 pub line-of-kind : (ws : List ℕ) (l k x : ℕ) → 1 ≤ k → k ≤ 3 → reasonLine ws (reasonOf k x) l ≡ cond (eqb k 1) [] (lineWords (line 1 (l ∷ cond (eqb k 2) (x ∷ []) (drop 1 (litsAt ws x)))))
