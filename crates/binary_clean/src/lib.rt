@@ -122,7 +122,7 @@ pub fn count_row(row: &[u32], code: u32, values: &[u8]) -> Counted
     requires { ⌜ ((p : ℕ) → p < length (now row) → varOf (at (now row) p) < length (now values)) ⌝ }
     ensures { λ r. ⌜ (r .entries ≡ length (rowCleaned (now (values .entry)) code (now (row .entry)))) × (r .words ≡ length (flat (rowStrikes (now (values .entry)) code (now (row .entry))))) ⌝ }
 {
-    let not_code = Lit(code).negated().0;
+    let negated = Lit(code).negated().0;
     let n = row.len();
     let mut i = 0usize;
     let mut entries = 0usize;
@@ -134,7 +134,7 @@ pub fn count_row(row: &[u32], code: u32, values: &[u8]) -> Counted
             entries += 1;
             continue;
         }
-        if not_code < b {
+        if negated < b {
             words += 4;
         }
     }

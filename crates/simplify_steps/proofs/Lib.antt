@@ -1,0 +1,2 @@
+pub mod Recast
+pub mod Facts
