@@ -1,2 +1,3 @@
 pub mod Recast
 pub mod Facts
+pub mod Whole
