@@ -25,9 +25,9 @@ one-recast t s a o h = let ls = litsAt (h .words) o in go (unfalsified a ls) (de
   where
     go : (r : List ℕ) (b u e w : Bool)
         → cond b (recast t s h) (cond u (gone o (strikeLine 5 o (h .words)) (h .rows) (h .binary) (recast t s h)) (cond e (stays o [] (h .words) (recast t s h))
-            (cond w (gone o (shortLines r o (h .words)) (pairPushed (at r 0) (at r 1) (h .rows)) (h .binary + 1) (recast t s h)) (stays o (shortLines r o (h .words)) (sets (h .words) (o + 2) (length r ∷ r)) (recast t s h)))))
+        (cond w (gone o (shortLines r o (h .words)) (pairPushed (at r 0) (at r 1) (h .rows)) (h .binary + 1) (recast t s h)) (stays o (shortLines r o (h .words)) (sets (h .words) (o + 2) (length r ∷ r)) (recast t s h)))))
         ≡ recast t s (cond b h (cond u (gone o (strikeLine 5 o (h .words)) (h .rows) (h .binary) h) (cond e (stays o [] (h .words) h)
-            (cond w (gone o (shortLines r o (h .words)) (pairPushed (at r 0) (at r 1) (h .rows)) (h .binary + 1) h) (stays o (shortLines r o (h .words)) (sets (h .words) (o + 2) (length r ∷ r)) h)))))
+        (cond w (gone o (shortLines r o (h .words)) (pairPushed (at r 0) (at r 1) (h .rows)) (h .binary + 1) h) (stays o (shortLines r o (h .words)) (sets (h .words) (o + 2) (length r ∷ r)) h)))))
     go r true u e w = refl
     go r false true e w = refl
     go r false false true w = refl
@@ -40,7 +40,7 @@ one-host a o h = let ls = litsAt (h .words) o in go (unfalsified a ls) (deletedA
   where
     go : (r : List ℕ) (b u e w : Bool)
         → cond b h (cond u (gone o (strikeLine 5 o (h .words)) (h .rows) (h .binary) h) (cond e (stays o [] (h .words) h)
-            (cond w (gone o (shortLines r o (h .words)) (pairPushed (at r 0) (at r 1) (h .rows)) (h .binary + 1) h) (stays o (shortLines r o (h .words)) (sets (h .words) (o + 2) (length r ∷ r)) h)))) .host ≡ h .host
+        (cond w (gone o (shortLines r o (h .words)) (pairPushed (at r 0) (at r 1) (h .rows)) (h .binary + 1) h) (stays o (shortLines r o (h .words)) (sets (h .words) (o + 2) (length r ∷ r)) h)))) .host ≡ h .host
     go r true u e w = refl
     go r false true e w = refl
     go r false false true w = refl

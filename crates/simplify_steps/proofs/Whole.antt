@@ -252,8 +252,8 @@ module _ (k : Lent) (j : judged everything k ≡ 0) (o : ownNumber unitSimplify 
     -- ---- the end
     module _ {r : State} {words′ clauses′ rows′ counts′ rec′ : List ℕ}
         (f : lentWalk r words′ clauses′ rows′ counts′ rec′ (k .host .values)
-            ≡ lay walkParts (lentWalk (withBinaryCount (entries / 2) (withRecorded recorded₁ (k .state))) (k .words) (k .clauses) rows₁ counts₁ rec₁ (k .host .values))
-            (longsDone (view (lentWalk (withBinaryCount (entries / 2) (withRecorded recorded₁ (k .state))) (k .words) (k .clauses) rows₁ counts₁ rec₁ (k .host .values))))) where
+        ≡ lay walkParts (lentWalk (withBinaryCount (entries / 2) (withRecorded recorded₁ (k .state))) (k .words) (k .clauses) rows₁ counts₁ rec₁ (k .host .values))
+        (longsDone (view (lentWalk (withBinaryCount (entries / 2) (withRecorded recorded₁ (k .state))) (k .words) (k .clauses) rows₁ counts₁ rec₁ (k .host .values))))) where
       laid : lentWalk r words′ clauses′ rows′ counts′ rec′ (k .host .values) ≡ lay walkParts k₁ (recast empties (side (valuesOnly (k .host .values))) (simplified (view k)))
       laid = f ∙ ap (lay walkParts k₁) (X-is ∙ done-walk)
 
@@ -280,7 +280,6 @@ module _ (k : Lent) (j : judged everything k ≡ 0) (o : ownNumber unitSimplify 
           ∙ ap₂ (λ (x : List ℕ) (n : ℕ). fill x n (simplified (view k) .rec)) rec-is (e .4 ∙ sym rec-length)
           ∙ fill-fill (k .rec) (k .state .recorded) (H .rec) (simplified (view k) .rec) recorded more (omega (arith, same, rec-room))
 
-
       pub whole-laid : length (k .tiers) ≡ 4 → length (k .state .tiers) ≡ 4
           → _≡_ {A = Lent} (record { state = r; words = words′; clauses = clauses′; tiers = k .tiers; rows = rows′; counts = counts′; rec = rec′; host = k .host }) (lay everything k (simplified (view k)))
       unfolding lay layState layHost side
@@ -289,7 +288,7 @@ module _ (k : Lent) (j : judged everything k ≡ 0) (o : ownNumber unitSimplify 
           let state : r ≡ stateOf (simplified (view k) .vars) (simplified (view k) .used) (length (simplified (view k) .clauses)) (lengths (simplified (view k) .tiers)) (length (simplified (view k) .rec)) (simplified (view k) .counts) (simplified (view k) .garbage) (simplified (view k) .binary) (simplified (view k) .activity) =
           ap (λ (x : Lent). x .state) laid
           ∙ ap (λ (t : List ℕ). stateOf (simplified (view k) .vars) (simplified (view k) .used) (length (simplified (view k) .clauses)) t (length (simplified (view k) .rec)) (simplified (view k) .counts) (simplified (view k) .garbage) (simplified (view k) .binary) (simplified (view k) .activity))
-              (sym (ap lengths tiers-then ∙ lengths-each (k .state .tiers) (k .tiers) inside)) in
+          (sym (ap lengths tiers-then ∙ lengths-each (k .state .tiers) (k .tiers) inside)) in
           let hs = host-sized everything k (sizes-judged everything k j) refl in
           let trail : k .host .trail ≡ fill (k .host .trail) (k .host .assigned) (simplified (view k) .host .trail) = sym (ap (λ (x : Side). fill (k .host .trail) (k .host .assigned) (x .trail)) host-then ∙ fill-same (k .host .trail) (k .host .assigned) (hs .assigned)) in
           let assigned : k .host .assigned ≡ length (simplified (view k) .host .trail) = sym (ap (λ (x : Side). length (x .trail)) host-then ∙ length-take-le (k .host .assigned) (k .host .trail) (hs .assigned)) in
@@ -303,3 +302,15 @@ module _ (k : Lent) (j : judged everything k ≡ 0) (o : ownNumber unitSimplify 
             rec = rec-then i;
             host = record { values = ap (λ (x : Side). x .values) (sym host-then) i; kinds = ap (λ (x : Side). x .kinds) (sym host-then) i; reasons = ap (λ (x : Side). x .reasons) (sym host-then) i; levels = ap (λ (x : Side). x .levels) (sym host-then) i; trail = trail i; assigned = assigned i; level = ap (λ (x : Side). x .level) (sym host-then) i };
           }
+
+    -- the same for a state by its equation
+    module _ {st′ : State} (g : st′ ≡ withBinaryCount (entries / 2) (withRecorded recorded₁ (k .state))) where
+      pub ready-at : LongReady (lentWalk st′ (k .words) (k .clauses) rows₁ counts₁ rec₁ (k .host .values))
+      ready-at = subst (λ (x : State). LongReady (lentWalk x (k .words) (k .clauses) rows₁ counts₁ rec₁ (k .host .values))) (sym g) long-ready
+
+      pub laid-at : {r : State} {words′ clauses′ rows′ counts′ rec′ : List ℕ}
+          → lentWalk r words′ clauses′ rows′ counts′ rec′ (k .host .values) ≡ lay walkParts (lentWalk st′ (k .words) (k .clauses) rows₁ counts₁ rec₁ (k .host .values)) (longsDone (view (lentWalk st′ (k .words) (k .clauses) rows₁ counts₁ rec₁ (k .host .values))))
+          → length (k .tiers) ≡ 4 → length (k .state .tiers) ≡ 4
+          → _≡_ {A = Lent} (record { state = r; words = words′; clauses = clauses′; tiers = k .tiers; rows = rows′; counts = counts′; rec = rec′; host = k .host }) (lay everything k (simplified (view k)))
+      laid-at {r} {words′} {clauses′} {rows′} {counts′} {rec′} f four lens =
+          whole-laid (subst (λ (x : State). lentWalk r words′ clauses′ rows′ counts′ rec′ (k .host .values) ≡ lay walkParts (lentWalk x (k .words) (k .clauses) rows₁ counts₁ rec₁ (k .host .values)) (longsDone (view (lentWalk x (k .words) (k .clauses) rows₁ counts₁ rec₁ (k .host .values))))) g f) four lens
