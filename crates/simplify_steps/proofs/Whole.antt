@@ -33,7 +33,8 @@ use Rattle.simplify_lines.specs.Walk.{Walkable, walkParts, lentWalk, longsDone,
 use Rattle.simplify_lines.proofs.Done.{Grows, state-last, state-zero, state-first, stateAt}
 use Rattle.simplify_long.specs.Ready.{LongReady}
 use Rattle.simplify_room.proofs.Room.{cleaned-many, cleaned-rows}
-use Rattle.simplify_steps.proofs.Recast.{recast, simplified-recast, simplified-long}
+use Rattle.simplify_steps.proofs.Recast.{recast, simplified-long}
+use Rattle.simplify_steps.proofs.Parts.{long-grows, done-walk, tiers-then, host-then}
 use Rattle.simplify_steps.proofs.Facts.{walkOf, square, within, rows-ready, walk-ready}
 
 all-yes : (f : ℕ → Bool) (n : ℕ) → ((c : ℕ) → c < n → f c ≡ true) → allBelow f n ≡ true
@@ -51,22 +52,6 @@ growing-of : (xs ys : List (List ℕ)) → length xs ≡ length ys → ((c : ℕ
 growing-of [] ys e f = tt
 growing-of (x ∷ xs) [] e f = absurd (omega arith)
 growing-of (x ∷ xs) (y ∷ ys) e f = (f 0, growing-of xs ys (omega arith) (λ c. f (suc c)))
-
--- the walk from what is held only adds to record and rows
-pub long-grows : (h : Held) → Grows h (longsDone h)
-long-grows h =
-    let g = state-last h 0 in
-    let e = state-zero h in
-    record {
-      rec = subst (λ (s : Held). length (s .rec) ≤ length (longsDone h .rec)) e (g .rec);
-      size = subst (λ (s : Held). length (longsDone h .rows) ≡ length (s .rows)) e (g .size);
-      row = subst (λ (s : Held). (c : ℕ) → length (listAt (s .rows) c) ≤ length (listAt (longsDone h .rows) c)) e (g .row);
-      host = subst (λ (s : Held). longsDone h .host ≡ s .host) e (g .host);
-      vars = subst (λ (s : Held). longsDone h .vars ≡ s .vars) e (g .vars);
-      used = subst (λ (s : Held). longsDone h .used ≡ s .used) e (g .used);
-      tiers = subst (λ (s : Held). longsDone h .tiers ≡ s .tiers) e (g .tiers);
-      activity = subst (λ (s : Held). longsDone h .activity ≡ s .activity) e (g .activity);
-    }
 
 module _ (k : Lent) (j : judged everything k ≡ 0) (o : ownNumber unitSimplify k ≡ 0) where
   abbrev m : ℕ
@@ -110,29 +95,15 @@ module _ (k : Lent) (j : judged everything k ≡ 0) (o : ownNumber unitSimplify 
   recorded = record-sized everything k (sizes-judged everything k j) refl .used
 
   -- ---- room
-  values-same : side (valuesOnly (k .host .values)) .values ≡ view k .host .values
-  unfolding view side
-  values-same = refl
-
-  abbrev empties : List (List ℕ)
-  empties = takeEach (k .state .tiers) ([] ∷ [] ∷ [] ∷ [] ∷ [])
-
-  view-walk : view (walkOf k) ≡ recast (takeEach (k .state .tiers) ([] ∷ [] ∷ [] ∷ [] ∷ [])) (side (valuesOnly (k .host .values))) (view k)
-  unfolding view side
-  view-walk = refl
-
-  done-walk : simplified (view (walkOf k)) ≡ recast (takeEach (k .state .tiers) ([] ∷ [] ∷ [] ∷ [] ∷ [])) (side (valuesOnly (k .host .values))) (simplified (view k))
-  done-walk = ap simplified view-walk ∙ simplified-recast empties (side (valuesOnly (k .host .values))) (view k) values-same
-
   room-then : fit everything k (simplified (view k)) ≡ true
   unfolding hasRoom step parts
   room-then = has-room unitSimplify k o
 
   pub rec-room : length (simplified (view (walkOf k)) .rec) ≤ length (k .rec)
-  rec-room = omega (arith, ap (λ (h : Held). length (h .rec)) done-walk, record-fits everything k (simplified (view k)) room-then refl)
+  rec-room = omega (arith, ap (λ (h : Held). length (h .rec)) (done-walk k), record-fits everything k (simplified (view k)) room-then refl)
 
   row-room : (c : ℕ) → c < length (k .counts) → length (listAt (simplified (view (walkOf k)) .rows) c) ≤ roomOf (k .state .vars) (k .rows)
-  row-room c h = omega (arith, ap (λ (x : Held). length (listAt (x .rows) c)) done-walk, row-fits everything k (simplified (view k)) room-then refl c (omega (arith, counts-long everything k (sizes-judged everything k j) refl)))
+  row-room c h = omega (arith, ap (λ (x : Held). length (listAt (x .rows) c)) (done-walk k), row-fits everything k (simplified (view k)) room-then refl c (omega (arith, counts-long everything k (sizes-judged everything k j) refl)))
 
   rec-first : H .rec ≡ take (k .state .recorded) (k .rec) ++ said
   unfolding binariesCleaned view side
@@ -150,20 +121,6 @@ module _ (k : Lent) (j : judged everything k ≡ 0) (o : ownNumber unitSimplify 
 
   row-grown : (c : ℕ) → length (listAt kept c) ≤ length (listAt (simplified (view (walkOf k)) .rows) c)
   row-grown c = omega (arith, long-grows H .row c, ap (λ (h : Held). length (listAt (h .rows) c)) (simplified-long (view (walkOf k))), ap (λ (r : List (List ℕ)). length (listAt r c)) rows-first)
-
-  tiers-first : binariesCleaned (view k) .tiers ≡ takeEach (k .state .tiers) (k .tiers)
-  unfolding binariesCleaned view
-  tiers-first = refl
-
-  host-first : binariesCleaned (view k) .host ≡ side (k .host)
-  unfolding binariesCleaned view
-  host-first = refl
-
-  tiers-then : simplified (view k) .tiers ≡ takeEach (k .state .tiers) (k .tiers)
-  tiers-then = ap (λ (h : Held). h .tiers) (simplified-long (view k)) ∙ long-grows (binariesCleaned (view k)) .tiers ∙ tiers-first
-
-  host-then : simplified (view k) .host ≡ side (k .host)
-  host-then = ap (λ (h : Held). h .host) (simplified-long (view k)) ∙ long-grows (binariesCleaned (view k)) .host ∙ host-first
 
   -- ---- after the cleaning
   module _ {rows₁ counts₁ rec₁ : List ℕ} {entries recorded₁ : ℕ}
@@ -222,8 +179,8 @@ module _ (k : Lent) (j : judged everything k ≡ 0) (o : ownNumber unitSimplify 
         let n = counts-long everything k (sizes-judged everything k j) refl in
         let u = words-fit everything k (simplified (view k)) room-then refl in
         let c = clauses-fit everything k (simplified (view k)) room-then refl in
-        let x : leb (simplified (view (walkOf k)) .used) (length (k .words)) ≡ true = le-leb (simplified (view (walkOf k)) .used) (length (k .words)) (omega (arith, ap (λ (h : Held). h .used) done-walk, u)) in
-        let y : leb (length (simplified (view (walkOf k)) .clauses)) (length (k .clauses)) ≡ true = le-leb (length (simplified (view (walkOf k)) .clauses)) (length (k .clauses)) (omega (arith, ap (λ (h : Held). length (h .clauses)) done-walk, c)) in
+        let x : leb (simplified (view (walkOf k)) .used) (length (k .words)) ≡ true = le-leb (simplified (view (walkOf k)) .used) (length (k .words)) (omega (arith, ap (λ (h : Held). h .used) (done-walk k), u)) in
+        let y : leb (length (simplified (view (walkOf k)) .clauses)) (length (k .clauses)) ≡ true = le-leb (length (simplified (view (walkOf k)) .clauses)) (length (k .clauses)) (omega (arith, ap (λ (h : Held). length (h .clauses)) (done-walk k), c)) in
         let r : allBelow (fitRow k₁ (simplified (view (walkOf k)))) (2 * k .state .vars) ≡ true =
         all-yes (fitRow k₁ (simplified (view (walkOf k)))) (2 * k .state .vars) (λ i h. le-leb (length (listAt (simplified (view (walkOf k)) .rows) i)) (roomOf (k .state .vars) rows₁) (omega (arith, row-room i (omega (arith, n)), room₁))) in
         let l : leb (length (simplified (view (walkOf k)) .rec)) (length rec₁) ≡ true = le-leb (length (simplified (view (walkOf k)) .rec)) (length rec₁) (omega (arith, rec-room, ap length (e .2), length-sets (k .rec) (k .state .recorded) said)) in
@@ -254,15 +211,15 @@ module _ (k : Lent) (j : judged everything k ≡ 0) (o : ownNumber unitSimplify 
         (f : lentWalk r words′ clauses′ rows′ counts′ rec′ (k .host .values)
         ≡ lay walkParts (lentWalk (withBinaryCount (entries / 2) (withRecorded recorded₁ (k .state))) (k .words) (k .clauses) rows₁ counts₁ rec₁ (k .host .values))
         (longsDone (view (lentWalk (withBinaryCount (entries / 2) (withRecorded recorded₁ (k .state))) (k .words) (k .clauses) rows₁ counts₁ rec₁ (k .host .values))))) where
-      laid : lentWalk r words′ clauses′ rows′ counts′ rec′ (k .host .values) ≡ lay walkParts k₁ (recast empties (side (valuesOnly (k .host .values))) (simplified (view k)))
-      laid = f ∙ ap (lay walkParts k₁) (X-is ∙ done-walk)
+      laid : lentWalk r words′ clauses′ rows′ counts′ rec′ (k .host .values) ≡ lay walkParts k₁ (recast (takeEach (k .state .tiers) ([] ∷ [] ∷ [] ∷ [] ∷ [])) (side (valuesOnly (k .host .values))) (simplified (view k)))
+      laid = f ∙ ap (lay walkParts k₁) (X-is ∙ (done-walk k))
 
       rows-then : rows′ ≡ fillRows (roomOf (k .state .vars) (k .rows)) (k .counts) (simplified (view k) .rows) (k .rows)
       unfolding lay
       rows-then =
           let n = counts-long everything k (sizes-judged everything k j) refl in
           let long = long-grows H in
-          let same : simplified (view (walkOf k)) .rows ≡ simplified (view k) .rows = ap (λ (h : Held). h .rows) done-walk in
+          let same : simplified (view (walkOf k)) .rows ≡ simplified (view k) .rows = ap (λ (h : Held). h .rows) (done-walk k) in
           let size : length (simplified (view k) .rows) ≡ length (k .counts) = ap length (sym same) ∙ ap (λ (h : Held). length (h .rows)) (simplified-long (view (walkOf k))) ∙ long .size ∙ ap length rows-first ∙ kept-many in
           let grows : Growing kept (simplified (view k) .rows) = growing-of kept (simplified (view k) .rows) (kept-many ∙ sym size) (λ c. subst (λ (x : List (List ℕ)). length (listAt kept c) ≤ length (listAt x c)) same (row-grown c)) in
           let fits : AllFit (roomOf (k .state .vars) (k .rows)) (simplified (view k) .rows) = allFit-of m (simplified (view k) .rows) (λ c h. row-fits everything k (simplified (view k)) room-then refl c (omega (arith, n, size))) in
@@ -274,7 +231,7 @@ module _ (k : Lent) (j : judged everything k ≡ 0) (o : ownNumber unitSimplify 
       rec-then : rec′ ≡ fill (k .rec) (k .state .recorded) (simplified (view k) .rec)
       unfolding lay
       rec-then =
-          let same : length (simplified (view (walkOf k)) .rec) ≡ length (simplified (view k) .rec) = ap (λ (h : Held). length (h .rec)) done-walk in
+          let same : length (simplified (view (walkOf k)) .rec) ≡ length (simplified (view k) .rec) = ap (λ (h : Held). length (h .rec)) (done-walk k) in
           let more : length (H .rec) ≤ length (simplified (view k) .rec) = omega (arith, same, long-grows H .rec, ap (λ (h : Held). length (h .rec)) (simplified-long (view (walkOf k)))) in
           ap (λ (x : Lent). x .rec) laid
           ∙ ap₂ (λ (x : List ℕ) (n : ℕ). fill x n (simplified (view k) .rec)) rec-is (e .4 ∙ sym rec-length)
@@ -288,19 +245,19 @@ module _ (k : Lent) (j : judged everything k ≡ 0) (o : ownNumber unitSimplify 
           let state : r ≡ stateOf (simplified (view k) .vars) (simplified (view k) .used) (length (simplified (view k) .clauses)) (lengths (simplified (view k) .tiers)) (length (simplified (view k) .rec)) (simplified (view k) .counts) (simplified (view k) .garbage) (simplified (view k) .binary) (simplified (view k) .activity) =
           ap (λ (x : Lent). x .state) laid
           ∙ ap (λ (t : List ℕ). stateOf (simplified (view k) .vars) (simplified (view k) .used) (length (simplified (view k) .clauses)) t (length (simplified (view k) .rec)) (simplified (view k) .counts) (simplified (view k) .garbage) (simplified (view k) .binary) (simplified (view k) .activity))
-          (sym (ap lengths tiers-then ∙ lengths-each (k .state .tiers) (k .tiers) inside)) in
+          (sym (ap lengths (tiers-then k) ∙ lengths-each (k .state .tiers) (k .tiers) inside)) in
           let hs = host-sized everything k (sizes-judged everything k j) refl in
-          let trail : k .host .trail ≡ fill (k .host .trail) (k .host .assigned) (simplified (view k) .host .trail) = sym (ap (λ (x : Side). fill (k .host .trail) (k .host .assigned) (x .trail)) host-then ∙ fill-same (k .host .trail) (k .host .assigned) (hs .assigned)) in
-          let assigned : k .host .assigned ≡ length (simplified (view k) .host .trail) = sym (ap (λ (x : Side). length (x .trail)) host-then ∙ length-take-le (k .host .assigned) (k .host .trail) (hs .assigned)) in
+          let trail : k .host .trail ≡ fill (k .host .trail) (k .host .assigned) (simplified (view k) .host .trail) = sym (ap (λ (x : Side). fill (k .host .trail) (k .host .assigned) (x .trail)) (host-then k) ∙ fill-same (k .host .trail) (k .host .assigned) (hs .assigned)) in
+          let assigned : k .host .assigned ≡ length (simplified (view k) .host .trail) = sym (ap (λ (x : Side). length (x .trail)) (host-then k) ∙ length-take-le (k .host .assigned) (k .host .trail) (hs .assigned)) in
           λ i. record {
             state = state i;
             words = ap (λ (x : Lent). x .words) laid i;
             clauses = ap (λ (x : Lent). x .clauses) laid i;
-            tiers = sym (ap (fillEach (k .tiers) (k .state .tiers)) tiers-then ∙ each-same (k .state .tiers) (k .tiers) inside) i;
+            tiers = sym (ap (fillEach (k .tiers) (k .state .tiers)) (tiers-then k) ∙ each-same (k .state .tiers) (k .tiers) inside) i;
             rows = rows-then i;
             counts = ap (λ (x : Lent). x .counts) laid i;
             rec = rec-then i;
-            host = record { values = ap (λ (x : Side). x .values) (sym host-then) i; kinds = ap (λ (x : Side). x .kinds) (sym host-then) i; reasons = ap (λ (x : Side). x .reasons) (sym host-then) i; levels = ap (λ (x : Side). x .levels) (sym host-then) i; trail = trail i; assigned = assigned i; level = ap (λ (x : Side). x .level) (sym host-then) i };
+            host = record { values = ap (λ (x : Side). x .values) (sym (host-then k)) i; kinds = ap (λ (x : Side). x .kinds) (sym (host-then k)) i; reasons = ap (λ (x : Side). x .reasons) (sym (host-then k)) i; levels = ap (λ (x : Side). x .levels) (sym (host-then k)) i; trail = trail i; assigned = assigned i; level = ap (λ (x : Side). x .level) (sym (host-then k)) i };
           }
 
     -- the same for a state by its equation
