@@ -18,3 +18,4 @@ pub mod Values
 pub mod Walks
 pub mod SortLengths
 pub mod Subsets
+pub mod Closing

@@ -1,0 +1,4 @@
+pub mod Literals
+pub mod Done
+pub mod Leaves
+pub mod Ahead

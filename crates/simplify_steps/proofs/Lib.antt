@@ -1,0 +1,5 @@
+pub mod Recast
+pub mod Facts
+pub mod Parts
+pub mod Whole
+pub mod Refuse
