@@ -1,0 +1,1 @@
+// What contracts say, and what they shut out; no code.
