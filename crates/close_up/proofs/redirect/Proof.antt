@@ -1,71 +1,71 @@
+use native.Mathlib.Omega.{arith}
+use Rattle.close_up.proofs.Cases.{not-true, not-long, other-clause, this-clause}
 use borrow.Author.Needs.{needs}
 use Rattle.close_up.proofs.redirect.Statement.{statement}
 use Rattle.close_up.proofs.redirect.Tie as tie
-use Rattle.close_up.proofs.redirect.Reads as reads
-use Rattle.close_up.proofs.redirect.Lts as lts
-use Rattle.buffers.proofs.put.Reads as put-reads
-use Rattle.kinds.proofs.Lit.var.Reads as var-reads
-use Rattle.kinds.proofs.lit_value.Reads as lit-value-reads
-use Rattle.kinds.proofs.node_at.Reads as node-at-reads
 
--- src/lib.rt:79:9
 lit-value-requires : tie.Need-lit-value-requires
 lit-value-requires c κs = search needs
 
 enum-told : tie.Need-enum-told
 enum-told c = search needs
 
--- src/lib.rt:81:9
 returns : tie.Need-returns
-returns c = ?
+returns c = 
+    let l = c .before in
+    let a = l .before .before .before .before .before .args in
+    not-true (a .values .now) (a .kinds .now) (a .reasons .now) (a .levels .now) (a .first .0) (a .offset) (a .to) (l .lit-value .ensures) (c .match .keys2)
 
--- src/lib.rt:83:9
 var-requires : tie.Need-var-requires
 var-requires c κs = search needs
 
--- src/lib.rt:84:9
 node-at-requires : tie.Need-node-at-requires
 node-at-requires c κs = search needs
 
--- src/lib.rt:86:22
 enum-known-reason : tie.Need-enum-known-reason
 enum-known-reason c = search needs
 
--- src/lib.rt:87:9
 same-length : tie.Need-same-length
 same-length c = search needs
 
--- src/lib.rt:87:9
 returns-2 : tie.Need-returns-2
-returns-2 c = ?
+returns-2 c = 
+    let n = c .before in
+    let v = n .before .before in
+    let l = v .before .before .before in
+    let a = l .before .before .before .before .before .args in
+    not-long (a .values .now) (a .kinds .now) (a .reasons .now) (a .levels .now) (a .first .0) (a .offset) (a .to) (l .lit-value .ensures) (v .before .before .match .keys1) _ (v .var .ensures) _ (n .node-at .ensures) (c .match2 .keys2)
 
--- src/lib.rt:89:8
 cast-if1 : tie.Need-cast-if1
 cast-if1 c = search needs
 
--- src/lib.rt:90:31
 cast-put : tie.Need-cast-put
 cast-put c = search needs
 
--- src/lib.rt:90:9
 put-requires : tie.Need-put-requires
 put-requires c κs = search needs
 
--- src/lib.rt:75:1
 same-length-2 : tie.Need-same-length-2
 same-length-2 c = search needs
 
--- src/lib.rt:75:1
 returns-3 : tie.Need-returns-3
-returns-3 c = ?
+returns-3 c = 
+    let n = c .before .before .before .before .before .before .before .before .before .before in
+    let v = n .before .before in
+    let l = v .before .before .before in
+    let a = l .before .before .before .before .before .args in
+    this-clause (a .values .now) (a .kinds .now) (a .reasons .now) (a .levels .now) (a .first .0) (a .offset) (a .to) (l .lit-value .ensures) (v .before .before .match .keys1) _ (v .var .ensures) _ (n .node-at .ensures) _ (c .before .before .before .before .before .before .before .before .reason .given .1) (c .before .before .before .before .before .if1 .taken) _ (c .before .before .put .ensures)
 
--- src/lib.rt:75:1
 same-length-3 : tie.Need-same-length-3
 same-length-3 c = search needs
 
--- src/lib.rt:75:1
 returns-4 : tie.Need-returns-4
-returns-4 c = ?
+returns-4 c = 
+    let n = c .before .before .before .before .before in
+    let v = n .before .before in
+    let l = v .before .before .before in
+    let a = l .before .before .before .before .before .args in
+    other-clause (a .values .now) (a .kinds .now) (a .reasons .now) (a .levels .now) (a .first .0) (a .offset) (a .to) (l .lit-value .ensures) (v .before .before .match .keys1) _ (v .var .ensures) _ (n .node-at .ensures) _ (c .before .before .before .reason .given .1) (c .if1 .left)
 
 pub redirect-spec : {M : Type 1} → statement M
 redirect-spec =
