@@ -75,9 +75,9 @@ module _ (values kinds reasons levels : List ℕ) (l o p : ℕ) {v : LitValue} (
     unfolding redirected
     not-long q = rw (true-told values l told t, ne-eqb (at kinds (varOf l)) 3 (not-long-told (at kinds (varOf l)) (at reasons (varOf l)) kind-is q))
 
-    module _ (c : ClauseRef) (long : Long c ≡ n .reason) where
+    module _ (c : ClauseRef) (long : n .reason ≡ Long c) where
       both : (at kinds (varOf l) ≡ 3) × (c .0 ≡ at reasons (varOf l))
-      both = long-told (at kinds (varOf l)) (at reasons (varOf l)) c (long ∙ kind-is)
+      both = long-told (at kinds (varOf l)) (at reasons (varOf l)) c (sym long ∙ kind-is)
 
       pub other-clause : (c .0 ≡ o → ⊥) → reasons ≡ goal
       unfolding redirected

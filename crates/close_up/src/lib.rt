@@ -50,7 +50,14 @@ pub fn close_up(words: &mut [u32], used: usize, clauses: &mut [u32], n: usize) -
 }
 
 // The list of a tier, of the clauses of that tier, in the order of the clause list. Its old entries were at least as many.
-pub fn rebuild(words: &[u32], clauses: &[u32], n: usize, list: &mut [u32], used: usize, tier: usize) -> usize
+pub fn rebuild(
+    words: &[u32],
+    clauses: &[u32],
+    n: usize,
+    list: &mut [u32],
+    used: usize,
+    tier: usize,
+) -> usize
     requires { ⌜ (n ≤ length (now clauses)) × (used ≤ length (now list)) × ((i : ℕ) → i < n → at (now clauses) i + 1 < length (now words)) ⌝ }
     requires { ⌜ length (ofTier (now words) tier (take n (now clauses))) ≤ used ⌝ }
     ensures { λ r. ⌜ (now (list .exit) ≡ fill (now (list .entry)) used (ofTier (now (words .entry)) tier (take n (now (clauses .entry)))))
@@ -72,7 +79,15 @@ pub fn rebuild(words: &[u32], clauses: &[u32], n: usize, list: &mut [u32], used:
 }
 
 // Where the clause at `offset` is asserting ("first literal true, its reason this clause"), that reason becomes `to`.
-fn redirect(values: &[u8], kinds: &[u8], reasons: &mut [u32], levels: &[u32], first: Lit, offset: usize, to: usize)
+fn redirect(
+    values: &[u8],
+    kinds: &[u8],
+    reasons: &mut [u32],
+    levels: &[u32],
+    first: Lit,
+    offset: usize,
+    to: usize,
+)
     requires { ⌜ (varOf (first .0) < length (now values)) × (varOf (first .0) < length (now kinds)) × (varOf (first .0) < length (now reasons)) × (varOf (first .0) < length (now levels)) × (to < 2 ^ 32) ⌝ }
     ensures { λ _. ⌜ now (reasons .exit) ≡ redirected (now (values .entry)) (now (kinds .entry)) (now (reasons .entry)) (first .0) offset to ⌝ }
 {

@@ -25,7 +25,7 @@ turn-at c =
     turn (s .args .used) (s .args .n) (s .args .words .now) (s .args .clauses .now) (l .loop .words) (l .loop .clauses) (l .loop .i) (l .loop .to) (l .loop .k) (s .pre .0 .0) (s .pre .0 .2) (l .loop .inv) (c .before .before .loop-test .taken) (c .word .result) (c .word .ensures .0)
 
 loop-holds : tie.Need-loop-holds Inv-loop μ-loop
-loop-holds c = 
+loop-holds c =
     let s = c .before .before in
     close-start (s .args .used) (s .args .n) (s .args .words .now) (s .args .clauses .now) (laid-placed (s .args .words .now) (s .args .used) (take (s .args .n) (s .args .clauses .now)) (s .args .n) (length-take-le (s .args .n) (s .args .clauses .now) (s .pre .0 .2)) (s .pre .1))
 
@@ -36,7 +36,7 @@ add-i : tie.Need-add-i Inv-loop μ-loop
 add-i c = search needs
 
 deleted-at-requires : tie.Need-deleted-at-requires Inv-loop μ-loop
-deleted-at-requires c κs = 
+deleted-at-requires c κs =
     let t = turn-at (c .before) in
     let l = c .before .before .before .before in
     let s = l .before .before .before in
@@ -45,7 +45,7 @@ deleted-at-requires c κs =
     omega (arith, s .pre .0 .0)
 
 add-word : tie.Need-add-word Inv-loop μ-loop
-add-word c = 
+add-word c =
     let t = turn-at (c .before .before .before .before) in
     let l = c .before .before .before .before .before .before .before in
     let s = l .before .before .before in
@@ -54,7 +54,7 @@ add-word c =
     omega (arith, s .pre .0 .0, s .pre .0 .1)
 
 word-requires-2 : tie.Need-word-requires-2 Inv-loop μ-loop
-word-requires-2 c κs = 
+word-requires-2 c κs =
     let t = turn-at (c .before .before .before .before) in
     let l = c .before .before .before .before .before .before .before in
     let s = l .before .before .before in
@@ -66,7 +66,7 @@ add-size : tie.Need-add-size Inv-loop μ-loop
 add-size c = search needs
 
 move-down-requires : tie.Need-move-down-requires Inv-loop μ-loop
-move-down-requires c κs = 
+move-down-requires c κs =
     let t = turn-at (c .before .before .before .before .before .before) in
     let l = c .before .before .before .before .before .before .before .before .before in
     let s = l .before .before .before in
@@ -75,7 +75,7 @@ move-down-requires c κs =
     (lo, omega (arith, s .pre .0 .0, c .before .word2 .ensures .0))
 
 put-requires : tie.Need-put-requires Inv-loop μ-loop
-put-requires c κs = 
+put-requires c κs =
     let t = turn-at (c .before .before .before .before .before .before .before .before .before .before) in
     let l = c .before .before .before .before .before .before .before .before .before .before .before .before .before in
     let s = l .before .before .before in
@@ -84,7 +84,7 @@ put-requires c κs =
     (omega (arith, s .pre .0 .2, c .before .before .before .before .before .before .before .before .before .before .before .before .loop-test .taken), omega (arith, s .pre .0 .0, s .pre .0 .1))
 
 add-to : tie.Need-add-to Inv-loop μ-loop
-add-to c = 
+add-to c =
     let t = turn-at (c .before .before .before .before .before .before .before .before .before .before .before .before .before) in
     let l = c .before .before .before .before .before .before .before .before .before .before .before .before .before .before .before .before in
     let s = l .before .before .before in
@@ -93,7 +93,7 @@ add-to c =
     omega (arith, s .pre .0 .0, s .pre .0 .1, c .before .before .before .before .before .before .before .before .word2 .ensures .1)
 
 add-k : tie.Need-add-k Inv-loop μ-loop
-add-k c = 
+add-k c =
     let t = turn-at (c .before .before .before .before .before .before .before .before .before .before .before .before .before) in
     let l = c .before .before .before .before .before .before .before .before .before .before .before .before .before .before .before .before in
     let s = l .before .before .before in
@@ -105,7 +105,7 @@ loop-less : tie.Need-loop-less Inv-loop μ-loop
 loop-less c = omega arith
 
 loop-again : tie.Need-loop-again Inv-loop μ-loop
-loop-again c = 
+loop-again c =
     let w = c .before .before .before .before .before .before .before .before .before .before .before .before .before in
     let l = w .before .before .before in
     let s = l .before .before .before in
@@ -116,7 +116,7 @@ loop-less-2 : tie.Need-loop-less-2 Inv-loop μ-loop
 loop-less-2 c = omega arith
 
 loop-again-2 : tie.Need-loop-again-2 Inv-loop μ-loop
-loop-again-2 c = 
+loop-again-2 c =
     let w = c .before .before .before in
     let l = w .before .before .before in
     let s = l .before .before .before in
@@ -124,14 +124,14 @@ loop-again-2 c =
     _ (c .before .deleted-at .ensures) (c .if1 .left)
 
 clear-requires : tie.Need-clear-requires Inv-loop μ-loop
-clear-requires c κs = 
+clear-requires c κs =
     let l = c .before .before in
     let s = l .before .before .before in
     let q = place-le (s .args .used) (s .args .n) (s .args .words .now) (s .args .clauses .now) (l .loop .words) (l .loop .clauses) (l .loop .i) (l .loop .to) (l .loop .k) (s .pre .0 .0) (s .pre .0 .2) (l .loop .inv) in
     (omega (arith, l .loop .inv .to-le), omega (arith, s .pre .0 .0, l .loop .inv .w-len))
 
 clear-requires-2 : tie.Need-clear-requires-2 Inv-loop μ-loop
-clear-requires-2 c κs = 
+clear-requires-2 c κs =
     let l = c .before .before .before .before .before .before in
     let s = l .before .before .before in
     (omega (arith, l .loop .inv .k-le, l .loop .inv .i-le), omega (arith, s .pre .0 .2, l .loop .inv .c-len))
@@ -143,7 +143,7 @@ same-length-2 : tie.Need-same-length-2 Inv-loop μ-loop
 same-length-2 c = c .before .before .clear2 .kept .0 ∙ c .before .before .before .before .before .before .before .before .before .loop .inv .c-len
 
 returns : tie.Need-returns Inv-loop μ-loop
-returns c = 
+returns c =
     let l = c .before .before .before .before .before .before .before .before .before in
     let s = l .before .before .before in
     let done = close-end (s .args .used) (s .args .n) (s .args .words .now) (s .args .clauses .now) (l .loop .words) (l .loop .clauses) (l .loop .i) (l .loop .to) (l .loop .k) (s .pre .0 .0) (s .pre .0 .2) (l .loop .inv) (c .before .before .before .before .before .before .before .before .loop-test .left) in

@@ -25,7 +25,7 @@ turn-at w =
     reached (s .args .vars) (s .args .words .now) (s .args .used) (s .args .clauses .now) (s .args .n) (s .args .values .now) (s .args .kinds .now) (s .args .reasons .now) (l .loop .reasons) (l .loop .i) (l .loop .to) (s .pre .0 .2) (s .pre .1 .0 .1) (l .loop .inv) (w .before .loop-test .taken) (w .word .result) (w .word .ensures .0)
 
 loop-holds : tie.Need-loop-holds Inv-loop μ-loop
-loop-holds c = 
+loop-holds c =
     let s = c .before .before .before .before .before .before in
     follow-start (s .args .words .now) (s .args .used) (s .args .clauses .now) (s .args .n) (s .args .values .now) (s .args .kinds .now) (s .args .reasons .now) (laid-placed (s .args .words .now) (s .args .used) (take (s .args .n) (s .args .clauses .now)) (s .args .n) (length-take-le (s .args .n) (s .args .clauses .now) (s .pre .0 .2)) (s .pre .1 .0 .0))
 
@@ -36,7 +36,7 @@ add-i : tie.Need-add-i Inv-loop μ-loop
 add-i c = search needs
 
 deleted-at-requires : tie.Need-deleted-at-requires Inv-loop μ-loop
-deleted-at-requires c κs = 
+deleted-at-requires c κs =
     let w = c in
     let l = w .before .before in
     let s = l .before .before .before .before .before .before .before in
@@ -44,7 +44,7 @@ deleted-at-requires c κs =
     omega arith
 
 add-word : tie.Need-add-word Inv-loop μ-loop
-add-word c = 
+add-word c =
     let w = c .before .before in
     let l = w .before .before in
     let s = l .before .before .before .before .before .before .before in
@@ -52,7 +52,7 @@ add-word c =
     omega arith
 
 word-requires-2 : tie.Need-word-requires-2 Inv-loop μ-loop
-word-requires-2 c κs = 
+word-requires-2 c κs =
     let w = c .before .before in
     let l = w .before .before in
     let s = l .before .before .before .before .before .before .before in
@@ -63,7 +63,7 @@ add-size : tie.Need-add-size Inv-loop μ-loop
 add-size c = search needs
 
 add-first : tie.Need-add-first Inv-loop μ-loop
-add-first c = 
+add-first c =
     let w = c .before .before .before in
     let l = w .before .before in
     let s = l .before .before .before .before .before .before .before in
@@ -71,7 +71,7 @@ add-first c =
     omega arith
 
 mul-first : tie.Need-mul-first Inv-loop μ-loop
-mul-first c = 
+mul-first c =
     let w = c .before .before .before in
     let l = w .before .before in
     let s = l .before .before .before .before .before .before .before in
@@ -79,7 +79,7 @@ mul-first c =
     omega arith
 
 shared-slice-read-first : tie.Need-shared-slice-read-first Inv-loop μ-loop
-shared-slice-read-first c = 
+shared-slice-read-first c =
     let w = c .before .before .before .before in
     let l = w .before .before in
     let s = l .before .before .before .before .before .before .before in
@@ -87,7 +87,7 @@ shared-slice-read-first c =
     let q = t .three (failed (c .before .before .before .deleted-at .ensures) (c .before .before .if1 .taken)) in omega arith
 
 redirect-requires : tie.Need-redirect-requires Inv-loop μ-loop
-redirect-requires c κs = 
+redirect-requires c κs =
     let w = c .before .before .before .before .before in
     let l = w .before .before in
     let s = l .before .before .before .before .before .before .before in
@@ -98,7 +98,7 @@ redirect-requires c κs =
     (omega (arith, z .0), omega (arith, z .1), omega (arith, z .2), omega (arith, z .3), omega arith)
 
 add-to : tie.Need-add-to Inv-loop μ-loop
-add-to c = 
+add-to c =
     let w = c .before .before .before .before .before .before .before .before in
     let l = w .before .before in
     let s = l .before .before .before .before .before .before .before in
@@ -109,7 +109,7 @@ loop-less : tie.Need-loop-less Inv-loop μ-loop
 loop-less c = omega arith
 
 loop-again : tie.Need-loop-again Inv-loop μ-loop
-loop-again c = 
+loop-again c =
     let w = c .before .before .before .before .before .before .before .before in
     let l = w .before .before in
     let s = l .before .before .before .before .before .before .before in
@@ -119,7 +119,7 @@ loop-less-2 : tie.Need-loop-less-2 Inv-loop μ-loop
 loop-less-2 c = omega arith
 
 loop-again-2 : tie.Need-loop-again-2 Inv-loop μ-loop
-loop-again-2 c = 
+loop-again-2 c =
     let w = c .before .before in
     let l = w .before .before in
     let s = l .before .before .before .before .before .before .before in
@@ -129,7 +129,7 @@ same-length : tie.Need-same-length Inv-loop μ-loop
 same-length c = c .before .loop .inv .same
 
 returns : tie.Need-returns Inv-loop μ-loop
-returns c = 
+returns c =
     let l = c .before in
     let s = l .before .before .before .before .before .before .before in
     follow-end (s .args .vars) (s .args .words .now) (s .args .used) (s .args .clauses .now) (s .args .n) (s .args .values .now) (s .args .kinds .now) (s .args .reasons .now) (l .loop .reasons) (l .loop .i) (l .loop .to) (s .pre .0 .2) (s .pre .1 .0 .1) (l .loop .inv) (c .loop-test .left)

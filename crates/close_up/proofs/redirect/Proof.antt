@@ -11,7 +11,7 @@ enum-told : tie.Need-enum-told
 enum-told c = search needs
 
 returns : tie.Need-returns
-returns c = 
+returns c =
     let l = c .before in
     let a = l .before .before .before .before .before .args in
     not-true (a .values .now) (a .kinds .now) (a .reasons .now) (a .levels .now) (a .first .0) (a .offset) (a .to) (l .lit-value .ensures) (c .match .keys2)
@@ -29,7 +29,7 @@ same-length : tie.Need-same-length
 same-length c = search needs
 
 returns-2 : tie.Need-returns-2
-returns-2 c = 
+returns-2 c =
     let n = c .before in
     let v = n .before .before in
     let l = v .before .before .before in
@@ -49,7 +49,7 @@ same-length-2 : tie.Need-same-length-2
 same-length-2 c = search needs
 
 returns-3 : tie.Need-returns-3
-returns-3 c = 
+returns-3 c =
     let n = c .before .before .before .before .before .before .before .before .before .before in
     let v = n .before .before in
     let l = v .before .before .before in
@@ -60,7 +60,7 @@ same-length-3 : tie.Need-same-length-3
 same-length-3 c = search needs
 
 returns-4 : tie.Need-returns-4
-returns-4 c = 
+returns-4 c =
     let n = c .before .before .before .before .before in
     let v = n .before .before in
     let l = v .before .before .before in
