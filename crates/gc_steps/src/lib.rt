@@ -1,0 +1,1 @@
+// The step of gc.rs, on what is lent.
