@@ -1,1 +1,3 @@
 pub mod Following
+pub mod Fewer
+pub mod Collecting
