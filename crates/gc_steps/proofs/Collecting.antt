@@ -181,16 +181,39 @@ module _ (s : State) (words clauses irred core mid local : List ℕ) (host : Hos
     unfolding collected
     kept-laid q = sym (unchanged fiveListsHost k refl four (sizes-judged fiveListsHost k j)) ∙ ap (λ (b : Bool). lay fiveListsHost k (cond b (closedUp h) h)) (not-due q)
 
+    -- ---- the clauses have closed up: what rebuilding stands on
+    module _ (words₁ clauses₁ : List ℕ) (n₁ : ℕ) (w : words₁ ≡ u) (c : clauses₁ ≡ fill clauses n new) (y : n₁ ≡ length new) where
+      pub places : take n₁ clauses₁ ≡ new
+      places = ap₂ (λ (z : ℕ) (l : List ℕ). take z l) y c ∙ take-fill clauses n new
+
+      pub places-fit : n₁ ≤ length clauses₁
+      places-fit =
+          let r = collect-ready in
+          let a = r .listed in
+          let b = new-fewer in
+          let e : length clauses₁ ≡ length clauses = ap length c ∙ length-fill clauses n new a (omega arith) in
+          omega arith
+
+      pub places-inside : (i : ℕ) → i < n₁ → at clauses₁ i + 1 < length words₁
+      places-inside i q =
+          let r = collect-ready in
+          let a = r .used in
+          let b = used-fewer in
+          let e : length words₁ ≡ length words = ap length w ∙ length-fill words (s .words) all a (omega arith) in
+          let f : at clauses₁ i ≡ at new i = ap (λ (l : List ℕ). at l i) c ∙ at-fill-in clauses n new i (omega arith) in
+          let g = new-within i (omega arith) in
+          omega arith
+
+      pub tiers-few : (t : ℕ) → t < 4 → length (ofTier words₁ t (take n₁ clauses₁)) ≤ at (s .tiers) t
+      tiers-few t q = rw (w, places) (tier-few t q)
+
     -- ---- the writes, put together
     module _ (q : s .words < s .garbage * 2) (words₁ clauses₁ reasons₁ : List ℕ) (tiers₁ : List (List ℕ)) (used₁ n₁ : ℕ) (lens₁ : List ℕ)
         (w : words₁ ≡ u) (c : clauses₁ ≡ fill clauses n new) (x : used₁ ≡ length all) (y : n₁ ≡ length new)
         (r : reasons₁ ≡ redirectedAll words (host .values) (host .kinds) 0 (take n clauses) (host .reasons))
         (b : tiers₁ ≡ fillEach (k .tiers) (s .tiers) (byTier words₁ (take n₁ clauses₁))) (m : lens₁ ≡ lengths (byTier words₁ (take n₁ clauses₁))) where
-      places : take n₁ clauses₁ ≡ new
-      places = ap₂ (λ (z : ℕ) (l : List ℕ). take z l) y c ∙ take-fill clauses n new
-
       tiers-are : byTier words₁ (take n₁ clauses₁) ≡ byTier u new
-      tiers-are = ap₂ byTier w places
+      tiers-are = ap₂ byTier w (places words₁ clauses₁ n₁ w c y)
 
       reasons-are : reasons₁ ≡ foldList (followed (side host) (undeleted words (take n clauses)) new) (host .reasons) (take (host .assigned) (host .trail))
       unfolding view side

@@ -32,9 +32,9 @@ no-more (x ∷ a) b d h =
     let pre = p .pre in
     let post = p .post in
     let r : length a ≤ length (pre ++ post) = no-more a (pre ++ post) (d .1)
-        (λ y m. ⊎-elim (λ q. in-left y pre post q)
-        (λ q. ⊎-elim (λ e. absurd (d .0 (subst (λ (z : ℕ). In z a) e m))) (λ z. in-right y pre post z) (elem-cases y x post q))
-        (in-append y pre (x ∷ post) (subst (In y) (p .split) (h y (elem-later y x a m))))) in
+    (λ y m. ⊎-elim (λ q. in-left y pre post q)
+    (λ q. ⊎-elim (λ e. absurd (d .0 (subst (λ (z : ℕ). In z a) e m))) (λ z. in-right y pre post z) (elem-cases y x post q))
+    (in-append y pre (x ∷ post) (subst (In y) (p .split) (h y (elem-later y x a m))))) in
     let m = length-append pre post in
     let n = length-append pre (x ∷ post) in
     let e : length b ≡ length (pre ++ x ∷ post) = ap length (p .split) in
@@ -104,7 +104,7 @@ module _ (w : List ℕ) (t : ℕ) where
       let p = elem-place x l (e .listed) in
       let d : deletedAt w (at l (p .0)) ≡ false = ap (deletedAt w) (p .2) ∙ e .undead in
       let q = any-find (standsAt tl (at l (p .0))) (length tl)
-          (r .listed (p .0) (p .1) (and-both (not (deletedAt w (at l (p .0)))) _ (ap not d) (eq-eqb (tierAt w (at l (p .0))) t (ap (tierAt w) (p .2) ∙ e .tier)))) in
+      (r .listed (p .0) (p .1) (and-both (not (deletedAt w (at l (p .0)))) _ (ap not d) (eq-eqb (tierAt w (at l (p .0))) t (ap (tierAt w) (p .2) ∙ e .tier)))) in
       subst (λ (y : ℕ). In y tl) (eqb-true (at tl (q .0)) (at l (p .0)) (q .2) ∙ p .2) (elem-index tl (q .0) (q .1)))
 
 -- ---- the clauses at their new places

@@ -148,7 +148,7 @@ module _ (w values kinds : List ℕ) where
         go (yes z) b q i j = here
             (ap (λ (t : List ℕ). at t x) (all-live w values kinds p r os rs live)
             ∙ all-off x (p + sizeAt w r) os (redirected values kinds rs (firstAt w r) r p)
-                (λ y u a c d f. let g = laid-in w used (endAt w o) os (l .1) y u in let v = l .0 in let j : p ≡ y = sym first ∙ f in omega arith)
+            (λ y u a c d f. let g = laid-in w used (endAt w o) os (l .1) y u in let v = l .0 in let j : p ≡ y = sym first ∙ f in omega arith)
             ∙ first) z
         go (no n) true q i j = ap (λ (t : List ℕ). at t x) (all-deleted w values kinds p o os rs q) ∙ i (later n) ∙ sym (place-skip p o os r q)
         go (no n) false q i j = ap (λ (t : List ℕ). at t x) (all-live w values kinds p o os rs q) ∙ j (later n) (kept n ∙ e) ∙ sym (place-later p o os r q n)

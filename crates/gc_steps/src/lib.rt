@@ -100,7 +100,17 @@ pub fn collect(
     let lens = s.tiers;
     let counts = s.counts;
     let activity = s.activity;
-    close_up::follow(s.vars, words, used, clauses, n, values, kinds, reasons, levels);
+    close_up::follow(
+        s.vars,
+        words,
+        used,
+        clauses,
+        n,
+        values,
+        kinds,
+        reasons,
+        levels,
+    );
     let closed = close_up::close_up(words, used, clauses, n);
     let listed = closed.listed;
     let tiers = rebuild_tiers(words, clauses, listed, irred, core, mid, local, lens);
