@@ -1,4 +1,5 @@
 use mathlib.Core.Path.{_≡_, refl}
+use Prim.Native.Nat.{_*_, _≤_, _<_}
 use native.Mathlib.Omega.{arith}
 use lib.ListN.{length}
 use Rattle.kinds.specs.Lent.{hostOf}
@@ -21,7 +22,8 @@ returns : tie.Need-returns
 returns c =
     let s = c .before .before .before .before .before .before .before .before .before .before .before .before .before in
     let a = s .args in
-    (kept-laid (a .s) (a .words .now) (a .clauses .now) (a .irred .now) (a .core .now) (a .mid .now) (a .local .now) (hostOf (a .values .now) (a .kinds .now) (a .reasons .now) (a .levels .now) (a .trail .now) (a .assigned) (a .level)) (four-lengths s) (s .pre .0) (c .if1 .taken), not-due (a .s) (a .words .now) (a .clauses .now) (a .irred .now) (a .core .now) (a .mid .now) (a .local .now) (hostOf (a .values .now) (a .kinds .now) (a .reasons .now) (a .levels .now) (a .trail .now) (a .assigned) (a .level)) (four-lengths s) (s .pre .0) (c .if1 .taken))
+    let q : a .s .garbage * 2 ≤ a .s .words = omega (arith, c .if1 .taken) in
+    (kept-laid (a .s) (a .words .now) (a .clauses .now) (a .irred .now) (a .core .now) (a .mid .now) (a .local .now) (hostOf (a .values .now) (a .kinds .now) (a .reasons .now) (a .levels .now) (a .trail .now) (a .assigned) (a .level)) (four-lengths s) (s .pre .0) q, not-due (a .s) (a .words .now) (a .clauses .now) (a .irred .now) (a .core .now) (a .mid .now) (a .local .now) (hostOf (a .values .now) (a .kinds .now) (a .reasons .now) (a .levels .now) (a .trail .now) (a .assigned) (a .level)) (four-lengths s) (s .pre .0) q)
 
 follow-requires : tie.Need-follow-requires
 follow-requires c κs =
@@ -72,7 +74,7 @@ returns-2 c =
     let a = s .args in
     let e = c .before .before .before .before .before .before .before .before .before .before .before .before .before .before .before .before .before .before .before .close-up .ensures in
     let t = c .before .before .before .before .before .before .before .before .rebuild-tiers .ensures in
-    let q = c .before .before .before .before .before .before .before .before .before .before .before .before .before .before .before .before .before .before .before .before .before .before .before .before .before .before .before .before .before .before .before .if1 .left in
+    let q : a .s .words < a .s .garbage * 2 = omega (arith, c .before .before .before .before .before .before .before .before .before .before .before .before .before .before .before .before .before .before .before .before .before .before .before .before .before .before .before .before .before .before .before .if1 .left) in
     (collect-laid (a .s) (a .words .now) (a .clauses .now) (a .irred .now) (a .core .now) (a .mid .now) (a .local .now) (hostOf (a .values .now) (a .kinds .now) (a .reasons .now) (a .levels .now) (a .trail .now) (a .assigned) (a .level)) (four-lengths s) (s .pre .0) q _ _ _ _ _ _ _ (e .0) (e .1) (e .2) (e .3) (c .before .before .before .before .before .before .before .before .before .before .before .before .before .before .before .before .before .before .before .before .before .before .before .before .follow .ensures) (t .0) (t .1), is-due (a .s) (a .words .now) (a .clauses .now) (a .irred .now) (a .core .now) (a .mid .now) (a .local .now) (hostOf (a .values .now) (a .kinds .now) (a .reasons .now) (a .levels .now) (a .trail .now) (a .assigned) (a .level)) (four-lengths s) (s .pre .0) q)
 
 pub collect-spec : {M : Type 1} → statement M
