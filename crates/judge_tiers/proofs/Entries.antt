@@ -1,17 +1,17 @@
 -- The entries of a tier list. Assumes nothing.
-use mathlib.Core.Path.{_≡_, refl, sym, ap, _∙_, subst}
+use mathlib.Core.Path.{_≡_, sym, ap, _∙_, subst}
 use mathlib.Core.Logic.{_⊎_, inl, inr}
 use mathlib.Core.Bool.{Bool, true, false, not, _&&_, _||_}
 use mathlib.Core.List.{List}
 use Prim.Native.Nat.{ℕ, _+_, _-_, _≤_, _<_}
 use native.Mathlib.Omega.{arith}
-use lib.Dec.{leb, ltb, eqb}
+use lib.Dec.{leb, ltb}
 use lib.ListN.{length, take}
 use borrow.Author.Tests.{le-leb, lt-leb, le-ltb, not-true, not-false}
 use Rattle.laws.specs.Fold.{anyBelow}
 use Rattle.laws.specs.Lists.{at}
 use Rattle.laws.proofs.Folds.{any-no, any-only, and-fails-left, and-fails-right}
-use Rattle.kinds.specs.Clauses.{endAt, lenAt, deletedAt, isLive}
+use Rattle.kinds.specs.Clauses.{endAt, deletedAt, isLive}
 use Rattle.calls.specs.StorePasses.{placed, liveAt, refAt, insideAt, staleOk, entryOk}
 use Rattle.calls.proofs.Readings.{rising-read, ends-read}
 use Rattle.judge_words.specs.Judging.{Split}
@@ -44,14 +44,14 @@ module _ (w : List ℕ) (used : ℕ) (l : List ℕ) (n : ℕ) (p : placed w used
   module _ (pos : k ≡ 0 → ⊥) (o : ℕ) (eo : o ≡ at l (k - 1)) {d : Bool} (ed : d ≡ deletedAt w o) where
     pub in-dead : d ≡ true → false ≡ anyBelow (insideAt w l x) n
     unfolding insideAt
-    in-dead q = sym (only pos ∙ and-fails-left _ _ (live-is w 0 l (k - 1) o eo ed ∙ ap not q))
+    in-dead q = sym (only pos ∙ and-fails-left _ _ (live-is w l (k - 1) o eo ed ∙ ap not q))
 
     pub in-test : d ≡ false → (y : ℕ) → y ≡ at w (o + 2) → ltb x (o + (y + 3)) ≡ anyBelow (insideAt w l x) n
     unfolding insideAt
     in-test q y ey =
         sym
         (only pos
-        ∙ ap (λ (b : Bool). b && (leb (at l (k - 1)) x && ltb x (endAt w (at l (k - 1))))) (live-is w 0 l (k - 1) o eo ed ∙ ap not q)
+        ∙ ap (λ (b : Bool). b && (leb (at l (k - 1)) x && ltb x (endAt w (at l (k - 1))))) (live-is w l (k - 1) o eo ed ∙ ap not q)
         ∙ ap (λ (b : Bool). b && ltb x (endAt w (at l (k - 1)))) (le-leb (at l (k - 1)) x (S .below (k - 1) (omega arith)))
         ∙ ap (λ (z : ℕ). ltb x (endAt w z)) (sym eo) ∙ ap (λ (z : ℕ). ltb x (o + (z + 3))) (sym ey))
 

@@ -12,9 +12,9 @@ use borrow.Author.Tests.{eq-eqb, ne-eqb, eqb-true, eqb-false}
 use Rattle.laws.specs.Fold.{allBelow, anyBelow, one, foldBelow}
 use Rattle.laws.specs.Lists.{at}
 use Rattle.laws.proofs.Folds.{all-at, all-same, any-same, any-at, any-none, any-more, any-find, and-both, and-left, and-right, and-fails-left, and-fails-right, or-right}
-use Rattle.laws.proofs.Tests.{and-true, or-false, or-true, not-not}
+use Rattle.laws.proofs.Tests.{and-true, or-false, or-true}
 use Rattle.kinds.specs.Header.{tierOf, deletedOf, markOf, withMark}
-use Rattle.kinds.specs.Clauses.{headAt, tierAt, deletedAt, changeHead}
+use Rattle.kinds.specs.Clauses.{headAt, changeHead}
 use Rattle.calls.specs.StorePasses.{clausesOk, clauseOkAt, liveAt, liveIn, refAt, standsAt, coveredAt, covered}
 use Rattle.calls.proofs.Readings.{unless, clause-read}
 use Rattle.judge_tiers.specs.Marking.{Inside, markAt, markEntry, marks, markedAt, clearAt, clears}

@@ -1,9 +1,8 @@
 -- The judging of the whole tier buffers is that of what they hold. Assumes nothing.
 use mathlib.Core.Path.{_≡_, refl, sym, ap, ap₂, _∙_}
-use mathlib.Core.Bool.{Bool, true, false, not, _&&_, _||_}
+use mathlib.Core.Bool.{Bool, true, not, _&&_, _||_}
 use mathlib.Core.List.{List, [], _∷_}
 use Prim.Native.Nat.{ℕ, zero, suc, _+_, _^_, _≤_, _<_}
-use native.Mathlib.Omega.{arith}
 use lib.Dec.{eqb, leb, ltb}
 use lib.ListN.{length, take}
 use lib.Seq.{getD-take, length-take-le, take-nil}
@@ -17,7 +16,7 @@ use Rattle.kinds.specs.declared.State.{State}
 use lib.Dec.{lit<}
 use Rattle.kinds.specs.Layout.{view}
 use Rattle.calls.specs.Size.{sized, tierSized, tiersSized}
-use Rattle.calls.specs.StorePasses.{placed, clausesOk, wordsPass, liveAt, liveIn, standsAt, coveredAt, covered, refAt, insideAt, staleOk, entryOk, entriesOk, tierOk, tiersOk}
+use Rattle.calls.specs.StorePasses.{placed, clausesOk, wordsPass, standsAt, coveredAt, covered, refAt, insideAt, staleOk, entryOk, entriesOk, tierOk, tiersOk}
 use Rattle.judge_words.proofs.Whole.{live-same, live-in-same, words-whole, WordsSized}
 use Rattle.judge_tiers.specs.Marking.{tierTest, Ready}
 

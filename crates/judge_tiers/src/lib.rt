@@ -22,7 +22,7 @@ ghost use Rattle.judge_tiers.specs.Marking.{tierTest, Ready, Inside, mar
 
 // ---- "Each live clause stands at least once in its tier's list."
 
-// The mark of the clause at e is set, if e is a live clause's reference.
+// The mark of the clause at e is set, if e is a live clause's reference. That offsets rise and lie inside the words, here and below, is the placing that `words_pass` has judged.
 fn mark_at(words: &mut [u32], clauses: &[u32], n: usize, e: usize)
     requires { ⌜ (n ≤ length (now clauses)) × Rising (now clauses) n × Inside (now clauses) n (length (now words)) ⌝ }
     ensures { λ _. ⌜ now (words .exit) ≡ markAt (now (clauses .entry)) n (now (words .entry)) e ⌝ }

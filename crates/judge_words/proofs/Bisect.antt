@@ -1,5 +1,5 @@
 -- The binary search over rising offsets. Assumes nothing.
-use mathlib.Core.Path.{_≡_, refl, sym, ap, _∙_, subst}
+use mathlib.Core.Path.{_≡_, refl, sym, ap, _∙_}
 use mathlib.Core.Logic.{⊎-elim, _⊎_, inl, inr}
 use mathlib.Core.Bool.{Bool, true, false, not, _&&_, _||_, true≢false}
 use mathlib.Core.List.{List, [], _∷_}
@@ -14,7 +14,7 @@ use borrow.Author.Tests.{eq-eqb, ne-eqb, eqb-true}
 use Rattle.laws.specs.Lists.{at, elem}
 use Rattle.laws.proofs.Folds.{or-left, or-right, or-neither, and-both, and-left, and-right, and-fails-left, any-at, any-find}
 use Rattle.laws.specs.Fold.{anyBelow}
-use Rattle.kinds.specs.Clauses.{endAt, deletedAt, isLive}
+use Rattle.kinds.specs.Clauses.{deletedAt, isLive}
 use Rattle.calls.specs.StorePasses.{placed, liveAt, refAt}
 use Rattle.calls.proofs.Readings.{ends-read, rising-read}
 use Rattle.judge_words.specs.Judging.{Rising, Split, Found}

@@ -1,18 +1,16 @@
 -- Live clauses: the tests from what the code has read and compared. Assumes nothing.
-use mathlib.Core.Path.{_≡_, refl, sym, ap, _∙_, subst}
-use mathlib.Core.Bool.{Bool, true, false, not, _&&_, _||_}
+use mathlib.Core.Path.{_≡_, sym, ap, _∙_}
+use mathlib.Core.Bool.{Bool, true, false, not, _||_}
 use mathlib.Core.List.{List}
-use Prim.Native.Nat.{ℕ, _+_, _*_, _≤_, _<_}
+use Prim.Native.Nat.{ℕ, _+_, _≤_, _<_}
 use native.Mathlib.Omega.{arith}
 use lib.Dec.{eqb, leb}
-use lib.ListN.{length}
 use borrow.Author.Tests.{le-leb, lt-leb, eq-eqb, ne-eqb, not-true, not-false, eqb-true}
 use native.Mathlib.Decide.{ℕ-discrete}
-use Rattle.laws.specs.Fold.{allBelow}
 use Rattle.laws.specs.Lists.{at}
-use Rattle.laws.proofs.Folds.{and-fails-left, and-fails-right}
+use Rattle.laws.proofs.Folds.{and-fails-left}
 use Rattle.kinds.specs.Header.{tierOf, markOf, glueOf, spareOf}
-use Rattle.kinds.specs.Clauses.{endAt, deletedAt, headAt, lenAt, activityAt}
+use Rattle.kinds.specs.Clauses.{deletedAt}
 use Rattle.kinds.specs.Floats.{activityOk, limitBits}
 use Rattle.calls.specs.StorePasses.{liveAt, litsOk, headOk, clauseOk, clauseOkAt, placed}
 use Rattle.calls.proofs.Readings.{next-read}
@@ -82,18 +80,18 @@ module _ (w : List ℕ) (v o x : ℕ) (ex : x ≡ at w (o + 2)) where
       clause-activity u ea = simp (← ex, le-leb 3 x h, le-leb x v k, ← er, not-false r t, ← es, not-false s u, ← ea)
 
 -- o is clause i's offset
-module _ (w : List ℕ) (v : ℕ) (l : List ℕ) (i o : ℕ) (eo : o ≡ at l i) {d : Bool} (ed : d ≡ deletedAt w o) where
+module _ (w l : List ℕ) (i o : ℕ) (eo : o ≡ at l i) {d : Bool} (ed : d ≡ deletedAt w o) where
   pub live-is : liveAt w l i ≡ not d
   unfolding liveAt
   live-is = ap (λ (z : ℕ). not (deletedAt w z)) (sym eo) ∙ ap not (sym ed)
 
-  pub clause-dead : d ≡ true → true ≡ clauseOkAt w v l i
+  pub clause-dead : (v : ℕ) → d ≡ true → true ≡ clauseOkAt w v l i
   unfolding clauseOkAt
-  clause-dead e = sym (ap (λ (b : Bool). not b || clauseOk w v (at l i)) (live-is ∙ ap not e))
+  clause-dead v e = sym (ap (λ (b : Bool). not b || clauseOk w v (at l i)) (live-is ∙ ap not e))
 
-  pub clause-live : d ≡ false → {r : Bool} → r ≡ clauseOk w v o → r ≡ clauseOkAt w v l i
+  pub clause-live : (v : ℕ) → d ≡ false → {r : Bool} → r ≡ clauseOk w v o → r ≡ clauseOkAt w v l i
   unfolding clauseOkAt
-  clause-live e q = q ∙ ap (clauseOk w v) eo ∙ sym (ap (λ (b : Bool). not b || clauseOk w v (at l i)) (live-is ∙ ap not e))
+  clause-live v e q = q ∙ ap (clauseOk w v) eo ∙ sym (ap (λ (b : Bool). not b || clauseOk w v (at l i)) (live-is ∙ ap not e))
 
 -- the stamps before clause i
 pub record Ahead (l : List ℕ) (n i : ℕ) (stamps : List ℕ) : Type 0 where

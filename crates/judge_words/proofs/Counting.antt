@@ -1,7 +1,6 @@
 -- Counts and live words. Assumes nothing.
 use mathlib.Core.Path.{_≡_, refl, sym, ap, ap₂, _∙_, subst}
 use mathlib.Core.Bool.{Bool, true, false, not, _&&_}
-use mathlib.Core.Logic.{⊎-elim}
 use mathlib.Core.List.{List}
 use Prim.Native.Nat.{ℕ, zero, suc, _+_, _-_, _*_, _≤_, _<_}
 use native.Mathlib.Omega.{arith}
@@ -10,12 +9,12 @@ use native.Mathlib.Nat.{add-zero, le-antisymm}
 use lib.Dec.{eqb, leb, lit<}
 use lib.ListN.{length, set, replicate, getD-replicate}
 use lib.Seq.{getD-set-same, getD-set-other}
-use borrow.Author.Tests.{le-leb, lt-leb, eq-eqb, ne-eqb, eqb-true, eqb-false, not-true, not-false}
+use borrow.Author.Tests.{le-leb, lt-leb, eq-eqb, ne-eqb, eqb-true, eqb-false}
 use native.Mathlib.Decide.{decLe}
 use Rattle.laws.specs.Fold.{allBelow, one, countBelow, sumBelow}
 use Rattle.laws.specs.Lists.{at}
 use Rattle.laws.proofs.Folds.{all-fails, count-none, count-more, and-fails-left}
-use Rattle.laws.proofs.Sums.{sum-none, sum-more}
+use Rattle.laws.proofs.Sums.{sum-more}
 use Rattle.kinds.specs.Clauses.{endAt, sizeAt, lenAt, deletedAt, tierAt}
 use Rattle.calls.specs.StorePasses.{placed, liveAt, liveIn, countOk, countsOk, liveSize, garbageOk}
 use Rattle.calls.proofs.Readings.{ends-read, next-read}
@@ -43,11 +42,11 @@ module _ (w l : List ℕ) (i o : ℕ) (eo : o ≡ at l i) {d : Bool} (ed : d ≡
   pub tally-skip : (c : List ℕ) → Tally w l i c → not d ≡ false → Tally w l (i + 1) c
   unfolding liveIn
   tally-skip c T e =
-      record { each = λ t lt. T .each t lt ∙ sym (count-more (liveIn w l t) i ∙ ap (λ (b : Bool). countBelow (liveIn w l t) i + one b) (and-fails-left _ _ (live-is w 0 l i o eo ed ∙ e)) ∙ add-zero _) }
+      record { each = λ t lt. T .each t lt ∙ sym (count-more (liveIn w l t) i ∙ ap (λ (b : Bool). countBelow (liveIn w l t) i + one b) (and-fails-left _ _ (live-is w l i o eo ed ∙ e)) ∙ add-zero _) }
 
   in-is : (t x : ℕ) → x ≡ tierAt w o → not d ≡ true → liveIn w l t i ≡ eqb x t
   unfolding liveIn
-  in-is t x ex e = ap₂ (λ (a b : Bool). a && b) (live-is w 0 l i o eo ed ∙ e) (ap (λ (z : ℕ). eqb z t) (ap (tierAt w) (sym eo) ∙ sym ex))
+  in-is t x ex e = ap₂ (λ (a b : Bool). a && b) (live-is w l i o eo ed ∙ e) (ap (λ (z : ℕ). eqb z t) (ap (tierAt w) (sym eo) ∙ sym ex))
 
   pub tally-add : (c : List ℕ) → length c ≡ 4 → Tally w l i c → not d ≡ true → (x : ℕ) → x ≡ tierAt w o → x < 4 → Tally w l (i + 1) (set c x (at c x + 1))
   tally-add c len T e x ex b =
@@ -72,7 +71,7 @@ module _ (w l : List ℕ) (n : ℕ) (counts c : List ℕ) (T : Tally w l n c) wh
 module _ (w l : List ℕ) (i o : ℕ) (eo : o ≡ at l i) {d : Bool} (ed : d ≡ deletedAt w o) {total : ℕ} (T : total ≡ sumBelow (liveSize w l) i) where
   pub words-skip : not d ≡ false → total ≡ sumBelow (liveSize w l) (i + 1)
   unfolding liveSize
-  words-skip e = T ∙ sym (sum-more (liveSize w l) i ∙ ap (λ (b : Bool). sumBelow (liveSize w l) i + one b * sizeAt w (at l i)) (live-is w 0 l i o eo ed ∙ e) ∙ none (sumBelow (liveSize w l) i) (sizeAt w (at l i)))
+  words-skip e = T ∙ sym (sum-more (liveSize w l) i ∙ ap (λ (b : Bool). sumBelow (liveSize w l) i + one b * sizeAt w (at l i)) (live-is w l i o eo ed ∙ e) ∙ none (sumBelow (liveSize w l) i) (sizeAt w (at l i)))
     where
       none : (a b : ℕ) → a + 0 * b ≡ a
       none a b = omega arith
@@ -81,7 +80,7 @@ module _ (w l : List ℕ) (i o : ℕ) (eo : o ≡ at l i) {d : Bool} (ed : d ≡
   unfolding liveSize
   words-add e x ex =
       ap₂ (λ (a b : ℕ). a + (b + 3)) T (ex ∙ ap (lenAt w) eo)
-      ∙ sym (sum-more (liveSize w l) i ∙ ap (λ (b : Bool). sumBelow (liveSize w l) i + one b * sizeAt w (at l i)) (live-is w 0 l i o eo ed ∙ e) ∙ whole (sumBelow (liveSize w l) i) (sizeAt w (at l i)))
+      ∙ sym (sum-more (liveSize w l) i ∙ ap (λ (b : Bool). sumBelow (liveSize w l) i + one b * sizeAt w (at l i)) (live-is w l i o eo ed ∙ e) ∙ whole (sumBelow (liveSize w l) i) (sizeAt w (at l i)))
     where
       whole : (a b : ℕ) → a + 1 * b ≡ a + b
       whole a b = omega arith

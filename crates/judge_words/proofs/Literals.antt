@@ -1,5 +1,5 @@
 -- "literals in range with different variables", by stamps. Assumes nothing.
-use mathlib.Core.Path.{_≡_, refl, sym, ap, ap₂, _∙_, subst}
+use mathlib.Core.Path.{_≡_, refl, sym, ap, _∙_, subst}
 use mathlib.Core.Bool.{Bool, true, false, not, _&&_}
 use mathlib.Core.List.{List}
 use Prim.Native.Nat.{ℕ, _+_, _*_, _/_, _≤_, _<_}
@@ -8,10 +8,10 @@ use lib.Dec.{eqb, ltb}
 use lib.ListN.{length, set, replicate, getD-replicate, length-replicate, List·getD-eq-default}
 use lib.Seq.{getD-set-same, getD-set-other}
 use native.Mathlib.Decide.{decLt}
-use borrow.Author.Tests.{lt-ltb, le-ltb, eq-eqb, ne-eqb, eqb-true, eqb-false, not-true, not-false}
+use borrow.Author.Tests.{lt-ltb, le-ltb, eq-eqb, ne-eqb, eqb-true, eqb-false}
 use Rattle.laws.specs.Fold.{allBelow}
 use Rattle.laws.specs.Lists.{at}
-use Rattle.laws.proofs.Folds.{all-none, all-more, all-fails, all-same, all-end, and-both, and-fails-left, and-fails-right}
+use Rattle.laws.proofs.Folds.{all-none, all-fails, all-same, all-end, and-both, and-fails-right}
 use Rattle.laws.proofs.Tests.{and-true, not-not, all-step}
 use Rattle.kinds.specs.Clauses.{varOf}
 use Rattle.calls.specs.StorePasses.{apart, litOk, litsOk}

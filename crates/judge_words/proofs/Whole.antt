@@ -1,6 +1,6 @@
 -- The judging of the whole buffers is that of what they hold. Assumes nothing.
-use mathlib.Core.Path.{_≡_, refl, sym, ap, ap₂, _∙_}
-use mathlib.Core.Bool.{Bool, true, false, not, _&&_, _||_}
+use mathlib.Core.Path.{_≡_, sym, ap, ap₂, _∙_}
+use mathlib.Core.Bool.{Bool, true, not, _&&_, _||_}
 use mathlib.Core.List.{List}
 use Prim.Native.Nat.{ℕ, _+_, _*_, _^_, _≤_, _<_}
 use native.Mathlib.Omega.{arith}
@@ -9,7 +9,7 @@ use lib.Dec.{eqb, leb}
 use lib.ListN.{length, take}
 use lib.Seq.{getD-take, length-take-le}
 use borrow.Author.Tests.{le-leb, leb-true}
-use Rattle.laws.specs.Fold.{allBelow, one}
+use Rattle.laws.specs.Fold.{one}
 use Rattle.laws.specs.Lists.{at}
 use Rattle.laws.proofs.Folds.{all-same, and-left, and-right, or-left}
 use Rattle.laws.proofs.Sums.{sum-same, count-same}

@@ -53,6 +53,7 @@ fn placed_at(words: &[u32], used: usize, clauses: &[u32], n: usize, i: usize) ->
     end <= word(clauses, i + 1)
 }
 
+// The sizes are refusal 1's, here and below.
 fn all_placed(words: &[u32], used: usize, clauses: &[u32], n: usize) -> bool
     requires { ⌜ (used ≤ length (now words)) × (n ≤ length (now clauses)) ⌝ }
     ensures { λ r. ⌜ r ≡ placed (now (words .entry)) used (now (clauses .entry)) n ⌝ }
@@ -123,7 +124,7 @@ fn head_ok(head: u32) -> bool
     glue_of(head) == 0
 }
 
-// The clause at an offset. The stamps there are those of earlier clauses: offsets rise, so each is at most this offset.
+// The clause at an offset, which ends by the used length (`all_placed`). The stamps are those of earlier clauses: offsets rise, so each is at most this offset.
 fn clause_ok(vars: usize, words: &[u32], offset: usize, stamps: &mut [u32]) -> bool
     requires { ⌜ (vars ≤ 65536) × (endAt (now words) offset ≤ length (now words)) × (length (now words) ≤ 2 ^ 24) ⌝ }
     requires { ⌜ (length (now stamps) ≡ 65536) × Below (now stamps) (offset + 1) ⌝ }
@@ -144,6 +145,7 @@ fn clause_ok(vars: usize, words: &[u32], offset: usize, stamps: &mut [u32]) -> b
     if !head_ok(head) {
         return false;
     }
+    // the limit's pattern
     word(words, offset) <= 0x7d7f_ffff
 }
 
@@ -160,6 +162,7 @@ fn clause_ok_at(vars: usize, words: &[u32], clauses: &[u32], i: usize, stamps: &
     clause_ok(vars, words, offset, stamps)
 }
 
+// The clauses are placed (`all_placed`), here and below.
 fn clauses_ok(vars: usize, used: usize, words: &[u32], clauses: &[u32], n: usize) -> bool
     requires { ⌜ (used ≤ length (now words)) × (length (now words) ≤ 2 ^ 24) × (n ≤ length (now clauses)) × (vars ≤ 65536) ⌝ }
     requires { ⌜ placed (now words) used (now clauses) n ≡ true ⌝ }
@@ -274,7 +277,7 @@ pub fn words_pass(
 
 // ---- the search for a clause, by bisection of the rising list
 
-// How many of the first n offsets are at most x.
+// How many of the first n offsets are at most x. Offsets rise where the clauses are placed.
 pub fn seek(clauses: &[u32], n: usize, x: usize) -> usize
     requires { ⌜ (n ≤ length (now clauses)) × Rising (now clauses) n ⌝ }
     ensures { λ r. ⌜ Split (now (clauses .entry)) n x r ⌝ }

@@ -1,15 +1,15 @@
 -- Sums, products and quotients of values of binary32 that are finite and not negative, by their bit patterns: each grows with its operands' patterns (a quotient shrinks as its divisor's grows), below the infinity.
 -- So a bound on a result is what the operation gives at the largest operands, which antt computes. Assumes nothing.
-use mathlib.Core.Path.{_≡_, refl, sym, ap, ap₂, _∙_, subst}
+use mathlib.Core.Path.{_≡_, sym, ap, ap₂, _∙_, subst}
 use Prim.Native.Nat.{ℕ, zero, suc, _+_, _*_, _^_, _≤_, _<_}
 use native.Mathlib.Nat.{lt-of-le-of-lt, lt-of-lt-of-le, lt-irrefl, mul-comm, mul-assoc, mul-left-comm, mul-right-comm, add-mul, mul-pos, mul-le-mul, mul-le-mul-right, mul-mul-mul-comm, add-le-add, zero-mul}
 use native.Mathlib.Omega.{arith}
-use mathlib.Core.Bool.{Bool, true, false, cond, true≢false}
+use mathlib.Core.Bool.{true, false, cond, true≢false}
 use lib.Dec.{T, eqb, eqb→eq, not-T}
 use lib.Pow.{pow-pos}
-use lib.Ieee.{Float, nan, inf, fin, Format, binary32, up, down, round, add, mul, div, ofBits, toBits}
+use lib.Ieee.{Float, nan, inf, fin, binary32, up, down, round, add, mul, div, ofBits, toBits}
 use lib.Ieee.Bits.{cond-no}
-use lib.Ieee.Fits.{up-pos, down-pos}
+use lib.Ieee.Fits.{down-pos}
 use lib.Ieee.Exact.{HasValue}
 use lib.Ieee.Scale.{round-same}
 use Rattle.kinds.proofs.FloatOrder.{val, val-le, val-lt, bits-value, round-bits}

@@ -1,18 +1,17 @@
 -- Activities, bump and inverse decay stay in document 01's ranges through bump, decay and rescale; 1/decay of an accepted decay lies strictly between 1 and 16; P6 and P7. Assumes nothing.
 -- `T (fits binary32 x)` is what owning an f32 tells: it is a float of the format.
-use mathlib.Core.Path.{_≡_, refl, sym, ap, ap₂, _∙_, subst}
+use mathlib.Core.Path.{_≡_, refl, sym, ap₂, _∙_, subst}
 use mathlib.Core.Logic.{_≢_}
 use mathlib.Core.List.{List, [], _∷_}
 use mathlib.Core.Bool.{Bool, true, false, not, _&&_}
-use Prim.Native.Nat.{ℕ, zero, suc, _+_, _^_, _≤_, _<_, suc-le-suc}
+use Prim.Native.Nat.{ℕ, zero, suc, _^_, _≤_, _<_, suc-le-suc}
 use native.Mathlib.Nat.{le-trans, le-of-lt, le-refl, lt-of-le-of-lt, lt-of-lt-of-le, not-suc-le-zero, zero-lt-suc, le-of-suc-le-suc}
 use native.Mathlib.Decide.{ℕ-discrete}
 use native.Mathlib.Omega.{arith}
-use lib.IntN.{pos}
 use lib.Dec.{T, ltb, leb, lit<, lit≤}
 use lib.ListN.{length, set, length-set}
 use lib.Seq.{getD-set-same, getD-set-other}
-use lib.Ieee.{Float, fin, binary32, add, mul, div, lt, le, fits, isNan, nanBits, ofBits, toBits}
+use lib.Ieee.{Float, binary32, add, mul, div, lt, le, fits, isNan, nanBits, ofBits, toBits}
 use lib.Ieee.Bits.{ofBits-toBits, ofBits-fits, nanBits-is}
 use lib.Ieee.Fits.{add-fits, mul-fits}
 use borrow.Author.Tests.{ltb-true, leb-true, ltb-false, leb-false, lt-ltb, le-leb}
@@ -164,7 +163,8 @@ scaled-small w h = scaled-bits w (le-trans h (lit≤ tt))
 pub scaled-ok : (w : ℕ) → w ≤ 0x7dff_ffff → activityOk (scaled w) ≡ true
 scaled-ok w h = bound-activity (scaled w) (le-trans (scaled-small w h) (lit≤ tt))
 
-rescaled-range : (b : Float) → T (fits binary32 b) → toBits binary32 b ≤ 0x7f7f_fffd → bumpOk (mul binary32 b factor) ≡ true
+-- 0x7f7f_fffd: the largest bump that a decay makes (`grown-range`)
+pub rescaled-range : (b : Float) → T (fits binary32 b) → toBits binary32 b ≤ 0x7f7f_fffd → bumpOk (mul binary32 b factor) ≡ true
 rescaled-range b F h = bound-bump _ (lt-of-le-of-lt (subst (λ (z : Float). toBits binary32 (mul binary32 z factor) ≤ 0x417f_ffff) (ofBits-toBits binary32 b F) (scaled-bits (toBits binary32 b) h)) (lit< tt))
 
 pub bump-scaled : (b : Float) → T (fits binary32 b) → bumpOk b ≡ true → bumpOk (mul binary32 b factor) ≡ true

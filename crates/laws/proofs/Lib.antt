@@ -1,5 +1,6 @@
 pub mod Choices
 pub mod Fills
+pub mod Filling
 pub mod Folds
 pub mod Reading
 pub mod Sorting
@@ -11,3 +12,6 @@ pub mod Writing
 pub mod Entries
 pub mod Sums
 pub mod Tests
+pub mod Totals
+pub mod Loops
+pub mod Values

@@ -1,5 +1,5 @@
 -- Tests by their equations, and one index more of `allBelow`. Assumes nothing.
-use mathlib.Core.Path.{_≡_, refl, sym, _∙_}
+use mathlib.Core.Path.{_≡_, refl, sym, ap, _∙_}
 use mathlib.Core.Bool.{Bool, true, false, not, _&&_, _||_}
 use Prim.Native.Nat.{ℕ, _+_}
 use native.Mathlib.Numerals.{add-one}
@@ -32,3 +32,10 @@ passed e h = sym e ∙ not-false _ h
 
 pub failed : {r b : Bool} → r ≡ b → not r ≡ true → b ≡ false
 failed e h = sym e ∙ not-true _ h
+
+-- a row of tests in the code: r is what the first gave, and the code leaves by `if !r`; else q is what the rest gave
+pub and-out : {r a : Bool} (b : Bool) → r ≡ a → not r ≡ true → false ≡ a && b
+and-out b e h = sym (ap (λ (x : Bool). x && b) (failed e h))
+
+pub and-in : {r a q b : Bool} → r ≡ a → not r ≡ false → q ≡ b → q ≡ a && b
+and-in {r} {a} {q} {b} e h k = k ∙ sym (ap (λ (x : Bool). x && b) (passed e h))

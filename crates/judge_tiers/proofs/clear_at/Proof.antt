@@ -19,7 +19,7 @@ deleted-of-requires : tie.Need-deleted-of-requires
 deleted-of-requires c κs = search needs
 
 returns : tie.Need-returns
-returns c = clear-dead _ _ 0 _ _ (c .before .before .before .word .ensures .0) (c .before .deleted-of .ensures) (c .if1 .taken)
+returns c = clear-dead _ _ _ _ (c .before .before .before .word .ensures .0) (c .before .deleted-of .ensures) (c .if1 .taken)
 
 with-mark-requires : tie.Need-with-mark-requires
 with-mark-requires c κs = search needs
@@ -37,7 +37,7 @@ same-length : tie.Need-same-length
 same-length c = search needs
 
 returns-2 : tie.Need-returns-2
-returns-2 c = clear-live _ _ 0 _ _ (c .before .before .before .before .word .ensures .0) (c .before .before .deleted-of .ensures) (c .before .if1 .left) (c .with-mark .ensures)
+returns-2 c = clear-live _ _ _ _ (c .before .before .before .before .word .ensures .0) (c .before .before .deleted-of .ensures) (c .before .if1 .left) (c .with-mark .ensures)
 
 pub clear-at-spec : {M : Type 1} → statement M
 clear-at-spec =

@@ -17,7 +17,7 @@ deleted-at-requires : tie.Need-deleted-at-requires
 deleted-at-requires c κs = search needs
 
 returns : tie.Need-returns
-returns c = (clause-dead _ _ _ _ _ (c .before .before .word .ensures .0) (c .before .deleted-at .ensures) (c .if1 .taken), below-wider (c .before .before .before .before .before .before .pre .1 .1) (omega arith))
+returns c = (clause-dead _ _ _ _ (c .before .before .word .ensures .0) (c .before .deleted-at .ensures) _ (c .if1 .taken), below-wider (c .before .before .before .before .before .before .pre .1 .1) (omega arith))
 
 clause-ok-requires : tie.Need-clause-ok-requires
 clause-ok-requires c κs =
@@ -30,7 +30,7 @@ same-length : tie.Need-same-length
 same-length c = search needs
 
 returns-2 : tie.Need-returns-2
-returns-2 c = (clause-live _ _ _ _ _ (c .before .before .before .before .before .before .word .ensures .0) (c .before .before .before .before .before .deleted-at .ensures) (c .before .before .before .before .if1 .left) (c .before .before .clause-ok .ensures .0), below-wider (c .before .before .clause-ok .ensures .1) (omega arith))
+returns-2 c = (clause-live _ _ _ _ (c .before .before .before .before .before .before .word .ensures .0) (c .before .before .before .before .before .deleted-at .ensures) _ (c .before .before .before .before .if1 .left) (c .before .before .clause-ok .ensures .0), below-wider (c .before .before .clause-ok .ensures .1) (omega arith))
 
 pub clause-ok-at-spec : {M : Type 1} → statement M
 clause-ok-at-spec =

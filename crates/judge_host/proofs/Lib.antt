@@ -1,0 +1,4 @@
+pub mod Literals
+pub mod Trail
+pub mod Ways
+pub mod Whole

@@ -1,0 +1,5 @@
+pub mod Tiers
+pub mod Rows
+pub mod Floating
+pub mod Start
+pub mod Whole

@@ -1,0 +1,3 @@
+pub mod Viewed
+pub mod Holding
+pub mod Determined
