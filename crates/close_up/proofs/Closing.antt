@@ -11,7 +11,7 @@ use Rattle.laws.specs.Lists.{at, readN, joined, starts, fill}
 use Rattle.laws.proofs.Reading.{length-read, read-same}
 use Rattle.laws.proofs.Tests.{passed, failed}
 use Rattle.kinds.specs.Clauses.{lenAt, sizeAt, endAt, wordsAt, deletedAt}
-use Rattle.close_up.proofs.Tails.{drop-more, at-more, drop-next, take-sets, drop-sets, filled}
+use Rattle.laws.proofs.Tails.{drop-more, at-more, drop-next, take-sets, drop-sets, filled}
 use Rattle.close_up.proofs.Laying.{Laid, laid-le, kept, offsets, kept-live, kept-deleted, offsets-live, offsets-deleted, kept-none, offsets-none}
 
 pub record Closing (used n : ℕ) (ws₀ cs₀ ws cs : List ℕ) (i to k : ℕ) : Type 0 where

@@ -1,4 +1,3 @@
-pub mod Tails
 pub mod Laying
 pub mod Closing
 pub mod Rebuilding

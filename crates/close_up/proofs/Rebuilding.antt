@@ -12,7 +12,7 @@ use borrow.Author.Tests.{eq-eqb, ne-eqb}
 use Rattle.laws.specs.Lists.{at, fill}
 use Rattle.kinds.specs.Clauses.{tierAt}
 use Rattle.calls.specs.Collecting.{ofTier}
-use Rattle.close_up.proofs.Tails.{drop-next, filled}
+use Rattle.laws.proofs.Tails.{drop-next, filled}
 
 module _ (ws : List ℕ) (t o : ℕ) (os : List ℕ) where
   pub of-tier-one : tierAt ws o ≡ t → ofTier ws t (o ∷ os) ≡ o ∷ ofTier ws t os

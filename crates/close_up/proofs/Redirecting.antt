@@ -13,7 +13,7 @@ use Rattle.kinds.specs.Clauses.{lenAt, firstAt, sizeAt, endAt, deletedAt, varOf
 use Rattle.calls.specs.StorePasses.{liveAt, clauseOk, clauseOkAt, clausesOk}
 use Rattle.calls.proofs.Readings.{unless, LiveClause, clause-read}
 use Rattle.close_up.specs.Reasons.{assertedBy, redirected, redirectedAll}
-use Rattle.close_up.proofs.Tails.{drop-next}
+use Rattle.laws.proofs.Tails.{drop-next}
 use Rattle.close_up.proofs.Laying.{Laid, laid-le}
 
 -- a listed live clause passes

@@ -88,9 +88,7 @@ pub fn add_clause(
             state: s,
         };
     }
-    let refusal = refuse_add_clause(
-        s, words, clauses, irred, core, mid, local, tier, glue, lits,
-    );
+    let refusal = refuse_add_clause(s, words, clauses, irred, core, mid, local, tier, glue, lits);
     if refusal != 0 {
         return AddedReply {
             answer: Added::Refused(kinds::refusal_of(refusal)),
@@ -99,7 +97,16 @@ pub fn add_clause(
     }
     let offset = s.words as u32;
     let state = db_steps::append_clause(
-        s, words, clauses, irred, core, mid, local, tier, glue, lits,
+        s,
+        words,
+        clauses,
+        irred,
+        core,
+        mid,
+        local,
+        tier,
+        glue,
+        lits,
     );
     AddedReply {
         answer: Added::At(ClauseRef(offset)),

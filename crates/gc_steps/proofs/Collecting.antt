@@ -11,6 +11,7 @@ use borrow.Author.Tests.{le-leb, le-ltb, lt-ltb}
 use Rattle.laws.specs.Fold.{foldList}
 use Rattle.laws.specs.Lists.{at, listAt, joined, starts, lengths, takeEach, fill, fillEach}
 use Rattle.laws.proofs.Folds.{and-left, and-right, and-both, all-of}
+use Rattle.laws.proofs.Filling.{take-fill}
 use Rattle.laws.proofs.Fills.{fill-same, length-fill, at-fill-in}
 use Rattle.kinds.specs.Clauses.{undeleted}
 use Rattle.kinds.specs.Held.{Held}
@@ -32,10 +33,6 @@ use Rattle.close_up.specs.Reasons.{redirectedAll}
 use Rattle.close_up.proofs.Laying.{Laid, laid-placed}
 use Rattle.gc_steps.proofs.Following.{reasons-follow}
 use Rattle.gc_steps.proofs.Fewer.{closed-tier, closed-used, closed-listed, closed-inside}
-
-pub take-fill : (buf : List ℕ) (n : ℕ) (xs : List ℕ) → take (length xs) (fill buf n xs) ≡ xs
-unfolding fill
-take-fill buf n xs = take-append-seam xs (replicate (n - length xs) 0 ++ drop (max n (length xs)) buf)
 
 by-tier : (u os : List ℕ) (t : ℕ) → t < 4 → listAt (byTier u os) t ≡ ofTier u t os
 unfolding byTier

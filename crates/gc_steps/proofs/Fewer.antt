@@ -10,8 +10,9 @@ use lib.Seq.{getD-append-add, take-append-seam}
 use lib.Dec.{eqb}
 use borrow.Author.Tests.{eqb-true, eqb-false, eq-eqb, ne-eqb}
 use Rattle.laws.specs.Lists.{at, listAt, elem, joined, starts, fill}
-use Rattle.laws.proofs.Members.{In, Distinct, in-left, in-right, in-append}
-use Rattle.laws.proofs.Entries.{At, elem-none, elem-here, elem-later, elem-cases, elem-index, elem-place, elem-at}
+use Rattle.laws.proofs.Members.{In, Distinct}
+use Rattle.laws.proofs.Entries.{elem-none, elem-here, elem-later, elem-cases, elem-index, elem-place}
+use Rattle.laws.proofs.Pigeonhole.{no-more}
 use Rattle.laws.proofs.Folds.{and-both, any-find}
 use Rattle.laws.proofs.Reading.{length-read, at-read}
 use Rattle.laws.proofs.Fills.{at-fill-in}
@@ -23,22 +24,6 @@ use Rattle.calls.proofs.Readings.{Tier}
 use Rattle.close_up.proofs.Laying.{Laid, laid-le, kept-fits}
 use Rattle.close_up.proofs.Rebuilding.{of-tier-one, of-tier-other, of-tier-none}
 use Rattle.gc_steps.proofs.Following.{laid-in}
-
--- different entries that all stand in b are at most as many as b has
-pub no-more : (a b : List ℕ) → Distinct a → ((x : ℕ) → In x a → In x b) → length a ≤ length b
-no-more [] b d h = omega arith
-no-more (x ∷ a) b d h =
-    let p = elem-at x b (h x (elem-here x a)) in
-    let pre = p .pre in
-    let post = p .post in
-    let r : length a ≤ length (pre ++ post) = no-more a (pre ++ post) (d .1)
-    (λ y m. ⊎-elim (λ q. in-left y pre post q)
-    (λ q. ⊎-elim (λ e. absurd (d .0 (subst (λ (z : ℕ). In z a) e m))) (λ z. in-right y pre post z) (elem-cases y x post q))
-    (in-append y pre (x ∷ post) (subst (In y) (p .split) (h y (elem-later y x a m))))) in
-    let m = length-append pre post in
-    let n = length-append pre (x ∷ post) in
-    let e : length b ≡ length (pre ++ x ∷ post) = ap length (p .split) in
-    omega arith
 
 -- ---- what the entries of a tier's list are
 

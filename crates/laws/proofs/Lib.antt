@@ -15,3 +15,5 @@ pub mod Tests
 pub mod Totals
 pub mod Loops
 pub mod Values
+pub mod Tails
+pub mod Pigeonhole

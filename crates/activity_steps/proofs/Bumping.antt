@@ -1,0 +1,224 @@
+-- Bumping, on what is lent. Assumes nothing.
+use mathlib.Core.Path.{_≡_, refl, sym, ap, ap₂, _∙_, subst}
+use mathlib.Core.Bool.{Bool, true, false, cond, _&&_}
+use mathlib.Core.Logic.{⊎-elim, _⊎_, inl, inr}
+use mathlib.Core.List.{List, [], _∷_, _++_}
+use Prim.Native.Nat.{ℕ, zero, suc, _+_, _-_, _*_, _^_, _≤_, _<_, max}
+use native.Mathlib.Decide.{ℕ-discrete, decLe}
+use native.Mathlib.Omega.{arith}
+use lib.ListN.{length, set, take, drop, replicate, length-append, length-set}
+use lib.Seq.{length-take-le, getD-set-same, getD-set-other}
+use lib.Dec.{eqb, ltb}
+use lib.Ieee.{lt, toBits, binary32}
+use borrow.Author.Tests.{eq-eqb, ne-eqb, lt-ltb, le-ltb, not-true}
+use Rattle.laws.specs.Fold.{foldList}
+use Rattle.laws.specs.Lists.{at, listAt, elem, more, less, push, lengths, takeEach, fill, fillEach}
+use Rattle.laws.proofs.Folds.{and-left, and-right, count-le}
+use Rattle.laws.proofs.Filling.{take-fill}
+use Rattle.laws.proofs.Fills.{fill-same}
+use Rattle.laws.proofs.Entries.{elem-place, elem-index}
+use Rattle.laws.proofs.Members.{In}
+use Rattle.laws.proofs.Pushes.{at-other, at-same}
+use Rattle.laws.proofs.Reading.{length-read, at-read, read-take}
+use Rattle.kinds.specs.Header.{tierOf, glueOf, withTier, withActive, withGlue}
+use Rattle.kinds.specs.Clauses.{headAt, lenAt, glueAt, tierAt, endAt, litsAt, deletedAt, isLive, undeleted, changeHead}
+use Rattle.kinds.specs.Floats.{limit, limitBits, activityOk, bumpOk, scaled}
+use Rattle.kinds.specs.Lent.{Lent, Parts, lentFive, levelsOnly, withTierBuffers, withWordBuffer}
+use Rattle.kinds.specs.Held.{Held, withWords, withCounts, withTiers}
+use Rattle.kinds.specs.Layout.{view, side, lay, layState, layHost}
+use Rattle.kinds.specs.Setters.{stateOf, withListed, withClauseActivity, withTierLengths, withTierCounts}
+use Rattle.kinds.specs.declared.State.{State}
+use Rattle.kinds.specs.declared.ClauseActivity.{ClauseActivity}
+use Rattle.kinds.proofs.RowLayout.{at-lengths}
+use Rattle.kinds.proofs.TierLayout.{Within, lengths-each, each-same, lengths-each-push}
+use Rattle.calls.specs.Call.{Command, bump, parts, fiveListsLevels}
+use Rattle.calls.specs.StorePasses.{placed, wordsPass, liveIn}
+use Rattle.calls.specs.Adding.{movedTo, tierSet}
+use Rattle.calls.specs.Bumping.{glueFor, tierFor, scaledAt, rescaled, sumFor, activityRaised, activityBumped, activated, glueStored, glueLowered, newGlue, bumped}
+use Rattle.calls.specs.Refusing.{own}
+use Rattle.calls.specs.Outcome.{judged, refusedFor, hasRoom, step, ownNumber}
+use Rattle.calls.proofs.Laws.{not-refused, has-room}
+use Rattle.calls.proofs.Readings.{words-pass, held-words, levels-pass, rising-read}
+use Rattle.calls.proofs.Judged.{sizes-judged, store-judged, host-judged, vars-high, words-sized, clauses-sized, tier-sized, levels-long, tier-fits}
+use Rattle.calls.proofs.Given.{first-not, live-right}
+use Rattle.calls.proofs.Live.{LiveThere, live-there}
+use Rattle.calls.proofs.Unchanged.{tiers-within}
+use Rattle.activity.specs.Stored.{Stored, Bounded, Away, holding, stored}
+use Rattle.activity.proofs.Ready.{bounded, floats-ok, reference-within, reference-activity, reference-away}
+use Rattle.activity.proofs.Scaling.{each-undeleted}
+use Rattle.activity.proofs.Whole.{lentWith, heldParts, putParts, view-bumped, lay-on}
+use Rattle.assess.specs.Levelled.{Levelled}
+use Rattle.assess.proofs.Ready.{levelled}
+
+-- ---- what a bump leaves of a clause's word 1
+
+scaled-off : (l ws : List ℕ) (p : ℕ) → ((i : ℕ) → i < length l → at l i ≡ p → ⊥) → at (foldList scaledAt ws l) p ≡ at ws p
+unfolding foldList scaledAt
+scaled-off [] ws p h = refl
+scaled-off (o ∷ l) ws p h = scaled-off l (scaledAt ws o) p (λ i k. h (suc i) (omega arith)) ∙ at-other ws o (scaled (at ws o)) p (λ e. h zero (omega arith) (sym e))
+
+module _ (words list : List ℕ) (o : ℕ) (a : ClauseActivity) (h : Held) (w : h .words ≡ words) (c : h .clauses ≡ list) (apart : (i : ℕ) → i < length list → at list i ≡ o + 1 → ⊥) where
+  raised-head : headAt (activityRaised o h .words) o ≡ headAt words o
+  raised-head = at-other (h .words) o (toBits binary32 (sumFor o h)) (o + 1) (λ e. omega arith) ∙ ap (λ (l : List ℕ). at l (o + 1)) w
+
+  pub bumped-head : headAt (activityBumped o h .words) o ≡ headAt words o
+  unfolding activityBumped rescaled
+  bumped-head = go (lt limit (sumFor o h))
+    where
+      far : (i : ℕ) → i < length (undeleted (activityRaised o h .words) list) → at (undeleted (activityRaised o h .words) list) i ≡ o + 1 → ⊥
+      far = each-undeleted (activityRaised o h .words) (λ (x : ℕ). x ≡ o + 1 → ⊥) list (λ i q d. apart i q)
+
+      go : (b : Bool) → headAt (cond b (rescaled (activityRaised o h)) (activityRaised o h) .words) o ≡ headAt words o
+      go true =
+          ap (λ (l : List ℕ). at (foldList scaledAt (activityRaised o h .words) (undeleted (activityRaised o h .words) l)) (o + 1)) c
+          ∙ scaled-off (undeleted (activityRaised o h .words) list) (activityRaised o h .words) (o + 1) far ∙ raised-head
+      go false = raised-head
+
+-- ---- laying, where the words alone change, or a tier's list besides
+
+module _ (k : Lent) (d : Bool) where
+  abbrev p : Parts
+  p = record { vars = true; state = true; words = true; tiers = true; rows = false; rec = false; levels = d; host = false }
+
+  pub lay-words : k .state .clauses ≤ length (k .clauses) → Within (k .state .tiers) (k .tiers) → (ws : List ℕ) → withWordBuffer ws k ≡ lay p k (withWords ws (view k))
+  unfolding lay layState layHost view side
+  lay-words u t ws = λ i. record {
+    state = record { vars = k .state .vars; words = k .state .words; clauses = sym (length-take-le (k .state .clauses) (k .clauses) u) i; tiers = sym (lengths-each (k .state .tiers) (k .tiers) t) i; recorded = k .state .recorded; counts = k .state .counts; garbage = k .state .garbage; binary = k .state .binary; activity = k .state .activity };
+    words = ws;
+    clauses = sym (fill-same (k .clauses) (k .state .clauses) u) i;
+    tiers = sym (each-same (k .state .tiers) (k .tiers) t) i;
+    rows = k .rows;
+    counts = k .counts;
+    rec = k .rec;
+    host = k .host;
+  }
+
+  pub lay-tiers : k .state .clauses ≤ length (k .clauses) → (ws cs : List ℕ) (ts : List (List ℕ)) (lens₁ : List ℕ) (tiers₁ : List (List ℕ)) → lens₁ ≡ lengths ts → tiers₁ ≡ fillEach (k .tiers) (k .state .tiers) ts
+      → withTierBuffers tiers₁ (withWordBuffer ws (record { state = withTierLengths lens₁ (withTierCounts cs (k .state)); words = k .words; clauses = k .clauses; tiers = k .tiers; rows = k .rows; counts = k .counts; rec = k .rec; host = k .host }))
+      ≡ lay p k (withWords ws (withCounts cs (withTiers ts (view k))))
+  unfolding lay layState layHost view side
+  lay-tiers u ws cs ts lens₁ tiers₁ l b = λ i. record {
+    state = record { vars = k .state .vars; words = k .state .words; clauses = sym (length-take-le (k .state .clauses) (k .clauses) u) i; tiers = l i; recorded = k .state .recorded; counts = cs; garbage = k .state .garbage; binary = k .state .binary; activity = k .state .activity };
+    words = ws;
+    clauses = sym (fill-same (k .clauses) (k .state .clauses) u) i;
+    tiers = b i;
+    rows = k .rows;
+    counts = k .counts;
+    rec = k .rec;
+    host = k .host;
+  }
+
+module _ (s : State) (words clauses irred core mid local levels : List ℕ) (o : ℕ) (four : length (s .tiers) ≡ 4) where
+  abbrev k : Lent
+  k = lentFive s words clauses irred core mid local (levelsOnly levels)
+
+  abbrev n : ℕ
+  n = s .clauses
+
+  abbrev h : Held
+  h = view k
+
+  -- what the code stands on
+  pub record BumpReady : Type 0 where
+    pub live : isLive words (take n clauses) o ≡ true
+    pub ends : endAt words o ≤ length words
+    pub most : length words ≤ 2 ^ 24
+    pub levelled : Levelled levels (litsAt words o)
+    pub bounded : Bounded limitBits words clauses n
+    pub inside : o < length words
+    pub activity : activityOk (at words o) ≡ true
+    pub away : Away clauses n o
+    pub bump : bumpOk (s .activity .bump) ≡ true
+    pub apart : (i : ℕ) → i < length (take n clauses) → at (take n clauses) i ≡ o + 1 → ⊥
+    pub used : (u : ℕ) → u < 4 → at (s .tiers) u ≤ length (listAt (k .tiers) u)
+    pub within : Within (s .tiers) (k .tiers)
+    pub tier : tierAt words o < 4
+    pub counted : 0 < at (s .counts) (tierAt words o)
+    pub count : (t : ℕ) → t < 4 → at (s .counts) t ≤ 2 ^ 22
+
+  -- from the judging, for a live clause
+  pub bump-ready : judged fiveListsLevels k ≡ 0 → isLive words (take n clauses) o ≡ true → BumpReady
+  unfolding view wordsPass isLive
+  bump-ready j live =
+      let p = fiveListsLevels in
+      let z = sizes-judged p k j in
+      let sp = store-judged p k j in
+      let w = words-sized p k z refl in
+      let l = clauses-sized p k z refl in
+      let pass = words-pass p h sp refl in
+      let there = live-there h o pass live in
+      let held = held-words h pass in
+      let len : length (take n clauses) ≡ n = length-take-le n clauses (l .used) in
+      let ends : endAt words o ≤ s .words = there .ends in
+      let in-words : s .words ≤ length words = w .used in
+      let most : length words ≤ 2 ^ 24 = w .most in
+      let lm : length clauses ≤ 2 ^ 22 = l .most in
+      let lu : n ≤ length clauses = l .used in
+      let rising = rising-read words (s .words) (take n clauses) (length (take n clauses)) (and-left _ _ pass) in
+      let pl = there .place in
+      record {
+        live = live;
+        ends = omega arith;
+        most = most;
+        levelled = levelled (s .vars) levels (litsAt words o) (vars-high p k z refl) (levels-long p k z refl) (levels-pass p h (host-judged p k j) refl)
+            (λ i q. let r = length-read words (o + 3) (lenAt words o) in subst (λ (x : ℕ). x < 2 * s .vars) (sym (at-read words (o + 3) (lenAt words o) i (omega arith))) (there .clause .lits .below i (omega arith)));
+        bounded = bounded p k z sp refl;
+        inside = reference-within p k z sp refl o live;
+        activity = reference-activity p k z sp refl o live;
+        away = reference-away p k z sp refl o live;
+        bump = floats-ok p k z sp refl .0;
+        apart = λ i q e.
+            let here : at (take n clauses) pl ≡ o = there .there in
+            near (ℕ-discrete i pl) (decLe i pl)
+            (λ a. let r = rising i pl a (there .listed) in omega arith)
+            (λ a. let r = rising pl i a q in omega arith)
+            (λ a. let r : at (take n clauses) i ≡ at (take n clauses) pl = ap (at (take n clauses)) a in omega arith);
+        used = λ u q. tier-sized p k z refl u q .used;
+        within = tiers-within p k z refl four refl;
+        tier = there .tier;
+        counted = there .counted;
+        count = λ t q. let ct = held .counts t q in let m = count-le (liveIn words (take n clauses) t) (length (take n clauses)) in omega arith;
+      }
+    where
+      near : {a b : ℕ} → Dec (a ≡ b) → Dec (a ≤ b) → (a < b → ⊥) → (b < a → ⊥) → (a ≡ b → ⊥) → ⊥
+      near (yes e) y f g i = i e
+      near (no e) (yes y) f g i = f (omega arith)
+      near (no e) (no y) f g i = g (omega arith)
+
+  abbrev G : Held
+  G = activityBumped o (heldParts k)
+
+  abbrev k₁ : Lent
+  k₁ = putParts k G
+
+  abbrev active : List ℕ
+  active = changeHead (withActive true) o (G .words)
+
+  glued : ℕ → List ℕ
+  glued g = changeHead (withGlue g) o active
+
+  listed-fits : k₁ .state .clauses ≤ length (k₁ .clauses)
+  unfolding fill
+  listed-fits = let e = length-append (G .clauses) (replicate (n - length (G .clauses)) 0 ++ drop (max n (length (G .clauses))) clauses) in omega arith
+
+  list-same : view k₁ .clauses ≡ G .clauses
+  unfolding view
+  list-same = take-fill clauses n (G .clauses)
+
+  -- what is laid into the buffers as they are after the bump
+  from-there : (x : Held) → x .clauses ≡ view k₁ .clauses → x ≡ bumped o h → {y : Lent} → y ≡ lay fiveListsLevels k₁ x → y ≡ lay fiveListsLevels k (bumped o h)
+  from-there x c e q = q ∙ lay-on k true G x (c ∙ list-same) ∙ ap (lay fiveListsLevels k) e
+
+  module _ (g : ℕ) (eg : g ≡ glueFor levels (litsAt words o)) where
+    bumped-is : glueLowered g o (activated o (view k₁)) ≡ bumped o h
+    unfolding bumped newGlue view side
+    bumped-is = ap₂ (λ (x : ℕ) (y : Held). glueLowered x o (activated o y)) eg (view-bumped k o)
+
+    -- the glue is no lower
+    kept-is : glueAt active o ≤ g → activated o (view k₁) ≡ bumped o h
+    unfolding glueLowered activated view
+    kept-is q = ap (λ (b : Bool). cond b (tierSet (tierFor g) o (glueStored g o (activated o (view k₁)))) (activated o (view k₁))) (sym (le-ltb g (glueAt active o) q)) ∙ bumped-is
+
+    lowered-is : g < glueAt active o → tierSet (tierFor g) o (glueStored g o (activated o (view k₁))) ≡ bumped o h
+    unfolding glueLowered activated view
+    lowered-is q = ap (λ (b : Bool). cond b (tierSet (tierFor g) o (glueStored g o (activated o (view k₁)))) (activated o (view k₁))) (sym (lt-ltb g (glueAt active o) q)) ∙ bumped-is

@@ -1,0 +1,2 @@
+pub mod Decaying
+pub mod Bumping
