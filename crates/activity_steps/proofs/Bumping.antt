@@ -138,7 +138,7 @@ module _ (s : State) (words clauses irred core mid local levels : List ℕ) (o :
 
   -- from the judging, for a live clause
   pub bump-ready : judged fiveListsLevels k ≡ 0 → isLive words (take n clauses) o ≡ true → BumpReady
-  unfolding view wordsPass isLive
+  unfolding view side wordsPass isLive
   bump-ready j live =
       let p = fiveListsLevels in
       let z = sizes-judged p k j in
