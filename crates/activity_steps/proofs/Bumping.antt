@@ -47,8 +47,15 @@ use Rattle.activity.specs.Stored.{Stored, Bounded, Away, holding, stored}
 use Rattle.activity.proofs.Ready.{bounded, floats-ok, reference-within, reference-activity, reference-away}
 use Rattle.activity.proofs.Scaling.{each-undeleted}
 use Rattle.activity.proofs.Whole.{lentWith, heldParts, putParts, view-bumped, lay-on}
+use Rattle.db_steps.proofs.Long.{grown}
 use Rattle.assess.specs.Levelled.{Levelled}
 use Rattle.assess.proofs.Ready.{levelled}
+
+glue-tier : (g x : ℕ) → tierOf (withGlue g x) ≡ tierOf x
+glue-tier g x = omega arith
+
+active-tier : (x : ℕ) → tierOf (withActive true x) ≡ tierOf x
+active-tier x = omega arith
 
 -- ---- what a bump leaves of a clause's word 1
 
@@ -194,7 +201,7 @@ module _ (s : State) (words clauses irred core mid local levels : List ℕ) (o :
   abbrev active : List ℕ
   active = changeHead (withActive true) o (G .words)
 
-  glued : ℕ → List ℕ
+  unfoldable glued : ℕ → List ℕ
   glued g = changeHead (withGlue g) o active
 
   listed-fits : k₁ .state .clauses ≤ length (k₁ .clauses)
@@ -222,3 +229,82 @@ module _ (s : State) (words clauses irred core mid local levels : List ℕ) (o :
     lowered-is : g < glueAt active o → tierSet (tierFor g) o (glueStored g o (activated o (view k₁))) ≡ bumped o h
     unfolding glueLowered activated view
     lowered-is q = ap (λ (b : Bool). cond b (tierSet (tierFor g) o (glueStored g o (activated o (view k₁)))) (activated o (view k₁))) (sym (lt-ltb g (glueAt active o) q)) ∙ bumped-is
+
+    module _ (q : g < glueAt active o) where
+      same-tier-is : tierAt (glued g) o ≡ tierFor g → glueStored g o (activated o (view k₁)) ≡ bumped o h
+      unfolding tierSet glueStored activated glued view
+      same-tier-is e = ap (λ (b : Bool). cond b (glueStored g o (activated o (view k₁))) (movedTo (tierFor g) o (glueStored g o (activated o (view k₁))))) (sym (eq-eqb (tierAt (glued g) o) (tierFor g) e)) ∙ lowered-is q
+
+      other-tier-is : (tierAt (glued g) o ≡ tierFor g → ⊥) → movedTo (tierFor g) o (glueStored g o (activated o (view k₁))) ≡ bumped o h
+      unfolding tierSet glueStored activated glued view
+      other-tier-is e = ap (λ (b : Bool). cond b (glueStored g o (activated o (view k₁))) (movedTo (tierFor g) o (glueStored g o (activated o (view k₁))))) (sym (ne-eqb (tierAt (glued g) o) (tierFor g) e)) ∙ lowered-is q
+
+  -- from the refusals: the reference is a live clause
+  pub bump-live : ownNumber (bump o) k ≡ 0 → isLive words (take n clauses) o ≡ true
+  unfolding view refusedFor own
+  bump-live q = live-right h o (first-not 6 _ _ (λ e. omega arith) (not-refused (bump o) k q))
+
+  -- ---- the code: st is what the activity's bump left, words₂ the words with the active flag
+  module _ (r : BumpReady) (st : Stored) (e : st ≡ stored clauses n G) (words₂ : List ℕ) (w₂ : words₂ ≡ changeHead (withActive true) o (st .words)) (g : ℕ) (eg : g ≡ glueFor levels (litsAt words o)) (b : ℕ) (eb : b ≡ glueAt words₂ o) where
+    active-is : words₂ ≡ active
+    active-is = w₂ ∙ ap (λ (x : Stored). changeHead (withActive true) o (x .words)) e
+
+    glue-is : b ≡ glueAt active o
+    glue-is = eb ∙ ap (λ (x : List ℕ). glueAt x o) active-is
+
+    pub bump-kept : b ≤ g → withWordBuffer words₂ (lentWith st k) ≡ lay fiveListsLevels k (bumped o h)
+    unfolding activated view activityBumped
+    bump-kept q =
+        let z = glue-is in
+        (λ i. withWordBuffer (active-is i) (lentWith (e i) k))
+        ∙ from-there (activated o (view k₁)) refl (kept-is g eg (omega arith)) (lay-words k₁ true listed-fits (r .within) active)
+
+    module _ (q : g < b) (words₃ : List ℕ) (w₃ : words₃ ≡ changeHead (withGlue g) o words₂) (t : ℕ) (et : t ≡ tierFor g) (old : ℕ) (eo : old ≡ tierAt words₃ o) where
+      low : g < glueAt active o
+      low = let z = glue-is in omega arith
+
+      glued-is : words₃ ≡ glued g
+      unfolding glued
+      glued-is = w₃ ∙ ap (changeHead (withGlue g) o) active-is
+
+      old-is : old ≡ tierAt (glued g) o
+      old-is = eo ∙ ap (λ (x : List ℕ). tierAt x o) glued-is
+
+      -- the tier is the clause's
+      pub old-tier : length (st .words) ≡ length words → old ≡ tierAt words o
+      old-tier l =
+          let f = r .ends in
+          let m : headAt (st .words) o ≡ headAt words o = ap (λ (x : Stored). headAt (x .words) o) e ∙ bumped-head words (take n clauses) o (s .activity) (heldParts k) refl refl (r .apart) in
+          let a : headAt words₂ o ≡ withActive true (headAt words o) = ap (λ (x : List ℕ). at x (o + 1)) w₂ ∙ at-same (st .words) (o + 1) (withActive true (headAt (st .words) o)) (omega arith) ∙ ap (withActive true) m in
+          let l₂ : length words₂ ≡ length (st .words) = ap length w₂ ∙ length-set (st .words) (o + 1) (withActive true (headAt (st .words) o)) in
+          let c : headAt words₃ o ≡ withGlue g (headAt words₂ o) = ap (λ (x : List ℕ). at x (o + 1)) w₃ ∙ at-same words₂ (o + 1) (withGlue g (headAt words₂ o)) (omega arith) in
+          eo ∙ ap tierOf (c ∙ ap (withGlue g) a) ∙ glue-tier g (withActive true (headAt words o)) ∙ active-tier (headAt words o)
+
+      pub bump-same : old ≡ t → withWordBuffer words₃ (lentWith st k) ≡ lay fiveListsLevels k (bumped o h)
+      unfolding activated glueStored glued view activityBumped
+      bump-same f =
+          (λ i. withWordBuffer (glued-is i) (lentWith (e i) k))
+          ∙ from-there (glueStored g o (activated o (view k₁))) refl (same-tier-is g eg low (sym old-is ∙ f ∙ et)) (lay-words k₁ true listed-fits (r .within) (glued g))
+
+      module _ (f : old ≡ t → ⊥) where
+        moved-is : movedTo t o (glueStored g o (activated o (view k₁))) ≡ bumped o h
+        moved-is = ap (λ (x : ℕ). movedTo x o (glueStored g o (activated o (view k₁)))) et ∙ other-tier-is g eg low (λ z. f (old-is ∙ z ∙ sym et))
+
+        pub bump-room : ownNumber (bump o) k ≡ 0 → t < 4 → at (s .tiers) t < length (listAt (k .tiers) t)
+        unfolding hasRoom step parts view movedTo glueStored activated
+        bump-room z y =
+            let a : length (listAt (push t o (takeEach (s .tiers) (k .tiers))) t) ≤ length (listAt (k .tiers) t) =
+            subst (λ (x : Held). length (listAt (x .tiers) t) ≤ length (listAt (k .tiers) t)) (sym moved-is) (tier-fits fiveListsLevels k (bumped o h) (has-room (bump o) k z) refl t y) in
+            let c = grown s words clauses irred core mid local four t o y (r .used) in
+            omega arith
+
+        pub bump-moved : (words₄ : List ℕ) (x : ℕ) → x ≡ withTier t (headAt words₃ o) → words₄ ≡ set words₃ (o + 1) x → (tiers₁ : List (List ℕ)) (lens₁ : List ℕ)
+            → tiers₁ ≡ fillEach (k .tiers) (s .tiers) (push t o (takeEach (s .tiers) (k .tiers))) → lens₁ ≡ lengths (push t o (takeEach (s .tiers) (k .tiers)))
+            → withTierBuffers tiers₁ (lentFive (stateOf (s .vars) (s .words) (st .listed) lens₁ (s .recorded) (more t (less old (s .counts))) (s .garbage) (s .binary) (st .activity)) words₄ (st .clauses) [] [] [] [] (levelsOnly levels))
+            ≡ lay fiveListsLevels k (bumped o h)
+        unfolding movedTo glueStored activated glued view
+        bump-moved words₄ x ex w₄ tiers₁ lens₁ bt bl =
+            let w : words₄ ≡ changeHead (withTier t) o (glued g) = w₄ ∙ ap (set words₃ (o + 1)) ex ∙ ap (changeHead (withTier t) o) glued-is in
+            (λ i. withTierBuffers tiers₁ (lentFive (stateOf (s .vars) (s .words) (e i .listed) lens₁ (s .recorded) (more t (less (old-is i) (s .counts))) (s .garbage) (s .binary) (e i .activity)) (w i) (e i .clauses) [] [] [] [] (levelsOnly levels)))
+            ∙ from-there (movedTo t o (glueStored g o (activated o (view k₁)))) refl moved-is
+            (lay-tiers k₁ true listed-fits (changeHead (withTier t) o (glued g)) (more t (less (tierAt (glued g) o) (s .counts))) (push t o (takeEach (s .tiers) (k .tiers))) lens₁ tiers₁ bl bt)

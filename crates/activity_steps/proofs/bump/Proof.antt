@@ -1,189 +1,237 @@
+use mathlib.Core.Path.{_≡_, refl, sym, ap, _∙_, subst}
+use mathlib.Core.List.{[], _∷_}
+use Prim.Native.Nat.{ℕ, _+_, _<_, _≤_, _^_}
+use native.Mathlib.Omega.{arith}
+use lib.ListN.{length, set, length-set}
+use Rattle.laws.specs.Lists.{at}
+use Rattle.db_steps.proofs.Tiering.{other-count}
+use Rattle.activity_steps.proofs.Bumping.{BumpReady, bump-ready, bump-live, bump-kept, bump-same, bump-room, bump-moved, old-tier}
 use borrow.Author.Needs.{needs}
 use Rattle.activity_steps.proofs.bump.Statement.{statement}
 use Rattle.activity_steps.proofs.bump.Tie as tie
-use Rattle.activity_steps.proofs.bump.Reads as reads
-use Rattle.activity_steps.proofs.bump.Lts as lts
-use Rattle.activity.proofs.bump_activity.Reads as bump-activity-reads
-use Rattle.activity_steps.proofs.activate.Reads as activate-reads
-use Rattle.activity_steps.proofs.glue_now.Reads as glue-now-reads
-use Rattle.activity_steps.proofs.store_glue.Reads as store-glue-reads
-use Rattle.activity_steps.proofs.tier_chosen.Reads as tier-chosen-reads
-use Rattle.header.proofs.glue_of.Reads as glue-of-reads
-use Rattle.header.proofs.with_tier.Reads as with-tier-reads
-use Rattle.judge_words.proofs.tier_at.Reads as tier-at-reads
-use Rattle.tier_lists.proofs.push.Reads as push-reads
 
--- src/lib.rt:109:18
+four-lengths : (c : tie.Start) → length (c .args .s .tiers) ≡ 4
+four-lengths c = search needs
+
+ready : (c : tie.Start) → BumpReady (c .args .s) (c .args .words .now) (c .args .clauses .now) (c .args .irred .now) (c .args .core .now) (c .args .mid .now) (c .args .local .now) (c .args .levels .now) (c .args .cref .0) (four-lengths c)
+ready c = bump-ready (c .args .s) (c .args .words .now) (c .args .clauses .now) (c .args .irred .now) (c .args .core .now) (c .args .mid .now) (c .args .local .now) (c .args .levels .now) (c .args .cref .0) (four-lengths c) (c .pre .0) (bump-live (c .args .s) (c .args .words .now) (c .args .clauses .now) (c .args .irred .now) (c .args .core .now) (c .args .mid .now) (c .args .local .now) (c .args .levels .now) (c .args .cref .0) (four-lengths c) (c .pre .1))
+
 cast-offset : tie.Need-cast-offset
 cast-offset c = search needs
 
--- src/lib.rt:114:9
 glue-now-requires : tie.Need-glue-now-requires
-glue-now-requires c κs = ?
+glue-now-requires c κs =
+    let s = c .before .before .before .before .before .before .before .before .before .before .before .before in
+    let a = s .args in
+    let r = ready s in
+    (r .ends, r .most, r .levelled)
 
--- src/lib.rt:115:9
 bump-activity-requires : tie.Need-bump-activity-requires
-bump-activity-requires c κs = ?
+bump-activity-requires c κs =
+    let s = c .before .before .before .before .before .before .before .before .before .before .before .before .before .before .before in
+    let a = s .args in
+    let r = ready s in
+    (r .bounded, r .inside, r .activity, r .away, r .bump)
 
--- src/lib.rt:118:5
 activate-requires : tie.Need-activate-requires
-activate-requires c κs = ?
+activate-requires c κs =
+    let s = c .before .before .before .before .before .before .before .before .before .before .before .before .before .before .before .before .before .before .before .before .before .before in
+    let a = s .args in
+    let r = ready s in
+    let l = c .before .before .before .before .before .before .bump-activity .kept .0 in
+    omega (arith, r .ends)
 
--- src/lib.rt:119:22
 add-head : tie.Need-add-head
 add-head c = search needs
 
--- src/lib.rt:119:16
 mul-head : tie.Need-mul-head
 mul-head c = search needs
 
--- src/lib.rt:119:16
 slice-read-head : tie.Need-slice-read-head
-slice-read-head c = ?
+slice-read-head c =
+    let s = c .before .before .before .before .before .before .before .before .before .before .before .before .before .before .before .before .before .before .before .before .before .before .before .before .before .before in
+    let a = s .args in
+    let r = ready s in
+    let l = c .before .before .before .before .before .before .before .before .before .before .bump-activity .kept .0 in
+    let m = c .before .before .before .activate .kept .0 in
+    omega (arith, r .ends)
 
--- src/lib.rt:120:18
 glue-of-requires : tie.Need-glue-of-requires
 glue-of-requires c κs = search needs
 
--- src/lib.rt:120:18
 cast-before : tie.Need-cast-before
 cast-before c = search needs
 
--- src/lib.rt:122:9
 same-length : tie.Need-same-length
 same-length c = search needs
 
--- src/lib.rt:122:9
 same-length-2 : tie.Need-same-length-2
 same-length-2 c = search needs
 
--- src/lib.rt:122:9
 returns : tie.Need-returns
-returns c = ?
+returns c =
+    let s = c .before .before .before .before .before .before .before .before .before .before .before .before .before .before .before .before .before .before .before .before .before .before .before .before .before .before .before .before in
+    let a = s .args in
+    let r = ready s in
+    bump-kept (a .s) (a .words .now) (a .clauses .now) (a .irred .now) (a .core .now) (a .mid .now) (a .local .now) (a .levels .now) (a .cref .0) (four-lengths s) r _ (c .before .before .before .before .before .before .before .before .before .before .before .before .bump-activity .ensures) _ (c .before .before .before .before .before .activate .ensures) _ (c .before .before .before .before .before .before .before .before .before .before .before .before .before .before .before .glue-now .ensures) _ (c .before .glue-of .ensures .0) (c .if1 .taken)
 
--- src/lib.rt:134:5
 store-glue-requires : tie.Need-store-glue-requires
-store-glue-requires c κs = ?
+store-glue-requires c κs =
+    let s = c .before .before .before .before .before .before .before .before .before .before .before .before .before .before .before .before .before .before .before .before .before .before .before .before .before .before .before .before .before in
+    let a = s .args in
+    let r = ready s in
+    let l = c .before .before .before .before .before .before .before .before .before .before .before .before .before .bump-activity .kept .0 in
+    let m = c .before .before .before .before .before .before .activate .kept .0 in
+    omega (arith, r .ends)
 
--- src/lib.rt:135:9
 tier-chosen-requires : tie.Need-tier-chosen-requires
 tier-chosen-requires c κs = search needs
 
--- src/lib.rt:136:9
 tier-at-requires : tie.Need-tier-at-requires
-tier-at-requires c κs = ?
+tier-at-requires c κs =
+    let s = c .before .before .before .before .before .before .before .before .before .before .before .before .before .before .before .before .before .before .before .before .before .before .before .before .before .before .before .before .before .before .before .before .before .before in
+    let a = s .args in
+    let r = ready s in
+    let l = c .before .before .before .before .before .before .before .before .before .before .before .before .before .before .before .before .before .before .bump-activity .kept .0 in
+    let m = c .before .before .before .before .before .before .before .before .before .before .before .activate .kept .0 in
+    let o = c .before .before .before .before .store-glue .kept .0 in
+    omega (arith, r .ends)
 
--- src/lib.rt:138:9
 same-length-3 : tie.Need-same-length-3
 same-length-3 c = search needs
 
--- src/lib.rt:138:9
 same-length-4 : tie.Need-same-length-4
 same-length-4 c = search needs
 
--- src/lib.rt:138:9
 returns-2 : tie.Need-returns-2
-returns-2 c = ?
+returns-2 c =
+    let s = c .before .before .before .before .before .before .before .before .before .before .before .before .before .before .before .before .before .before .before .before .before .before .before .before .before .before .before .before .before .before .before .before .before .before .before .before in
+    let a = s .args in
+    let r = ready s in
+    bump-same (a .s) (a .words .now) (a .clauses .now) (a .irred .now) (a .core .now) (a .mid .now) (a .local .now) (a .levels .now) (a .cref .0) (four-lengths s) r _ (c .before .before .before .before .before .before .before .before .before .before .before .before .before .before .before .before .before .before .before .before .bump-activity .ensures) _ (c .before .before .before .before .before .before .before .before .before .before .before .before .before .activate .ensures) _ (c .before .before .before .before .before .before .before .before .before .before .before .before .before .before .before .before .before .before .before .before .before .before .before .glue-now .ensures) _ (c .before .before .before .before .before .before .before .before .before .glue-of .ensures .0) (c .before .before .before .before .before .before .before .before .if1 .left) _ (c .before .before .before .before .before .before .store-glue .ensures) _ (c .before .before .before .tier-chosen .ensures .0) _ (c .before .tier-at .ensures .0) (c .if2 .taken)
 
--- src/lib.rt:150:17
 add-place : tie.Need-add-place
 add-place c = search needs
 
--- src/lib.rt:151:17
 mul-lower : tie.Need-mul-lower
 mul-lower c = search needs
 
--- src/lib.rt:151:17
 slice-read-lower : tie.Need-slice-read-lower
-slice-read-lower c = ?
+slice-read-lower c =
+    let s = c .before .before .before .before .before .before .before .before .before .before .before .before .before .before .before .before .before .before .before .before .before .before .before .before .before .before .before .before .before .before .before .before .before .before .before .before .before in
+    let a = s .args in
+    let r = ready s in
+    let l = c .before .before .before .before .before .before .before .before .before .before .before .before .before .before .before .before .before .before .before .before .before .bump-activity .kept .0 in
+    let m = c .before .before .before .before .before .before .before .before .before .before .before .before .before .before .activate .kept .0 in
+    let o = c .before .before .before .before .before .before .before .store-glue .kept .0 in
+    omega (arith, r .ends)
 
--- src/lib.rt:152:45
 cast-with-tier : tie.Need-cast-with-tier
 cast-with-tier c = search needs
 
--- src/lib.rt:152:20
 with-tier-requires : tie.Need-with-tier-requires
 with-tier-requires c κs = search needs
 
--- src/lib.rt:152:5
 mul-words : tie.Need-mul-words
-mul-words c = ?
+mul-words c =
+    let s = c .before .before .before .before .before .before .before .before .before .before .before .before .before .before .before .before .before .before .before .before .before .before .before .before .before .before .before .before .before .before .before .before .before .before .before .before .before .before in
+    let a = s .args in
+    let r = ready s in
+    let l = c .before .before .before .before .before .before .before .before .before .before .before .before .before .before .before .before .before .before .before .before .before .before .bump-activity .kept .0 in
+    let m = c .before .before .before .before .before .before .before .before .before .before .before .before .before .before .before .activate .kept .0 in
+    let o = c .before .before .before .before .before .before .before .before .store-glue .kept .0 in
+    omega (arith, r .ends, r .most)
 
--- src/lib.rt:152:5
 slice-write-words : tie.Need-slice-write-words
-slice-write-words c = ?
+slice-write-words c =
+    let s = c .before .before .before .before .before .before .before .before .before .before .before .before .before .before .before .before .before .before .before .before .before .before .before .before .before .before .before .before .before .before .before .before .before .before .before .before .before .before in
+    let a = s .args in
+    let r = ready s in
+    let l = c .before .before .before .before .before .before .before .before .before .before .before .before .before .before .before .before .before .before .before .before .before .before .bump-activity .kept .0 in
+    let m = c .before .before .before .before .before .before .before .before .before .before .before .before .before .before .before .activate .kept .0 in
+    let o = c .before .before .before .before .before .before .before .before .store-glue .kept .0 in
+    omega (arith, r .ends)
 
--- src/lib.rt:153:9
 push-requires : tie.Need-push-requires
-push-requires c κs = ?
+push-requires c κs =
+    let s = c .before .before .before .before .before .before .before .before .before .before .before .before .before .before .before .before .before .before .before .before .before .before .before .before .before .before .before .before .before .before .before .before .before .before .before .before .before .before .before .before .before .before in
+    let a = s .args in
+    let r = ready s in
+    ((c .before .before .before .before .before .before .before .before .before .tier-chosen .ensures .1, r .used 0 (omega arith), r .used 1 (omega arith), r .used 2 (omega arith), r .used 3 (omega arith)), bump-room (a .s) (a .words .now) (a .clauses .now) (a .irred .now) (a .core .now) (a .mid .now) (a .local .now) (a .levels .now) (a .cref .0) (four-lengths s) r _ (c .before .before .before .before .before .before .before .before .before .before .before .before .before .before .before .before .before .before .before .before .before .before .before .before .before .before .bump-activity .ensures) _ (c .before .before .before .before .before .before .before .before .before .before .before .before .before .before .before .before .before .before .before .activate .ensures) _ (c .before .before .before .before .before .before .before .before .before .before .before .before .before .before .before .before .before .before .before .before .before .before .before .before .before .before .before .before .before .glue-now .ensures) _ (c .before .before .before .before .before .before .before .before .before .before .before .before .before .before .before .glue-of .ensures .0) (c .before .before .before .before .before .before .before .before .before .before .before .before .before .before .if1 .left) _ (c .before .before .before .before .before .before .before .before .before .before .before .before .store-glue .ensures) _ (c .before .before .before .before .before .before .before .before .before .tier-chosen .ensures .0) _ (c .before .before .before .before .before .before .before .tier-at .ensures .0) (c .before .before .before .before .before .before .if2 .left) (s .pre .1) (c .before .before .before .before .before .before .before .before .before .tier-chosen .ensures .1))
 
--- src/lib.rt:154:19
 mul-counts : tie.Need-mul-counts
 mul-counts c = search needs
 
--- src/lib.rt:154:19
 array-read-counts : tie.Need-array-read-counts
 array-read-counts c = search needs
 
--- src/lib.rt:154:19
 sub-counts : tie.Need-sub-counts
-sub-counts c = ?
+sub-counts c =
+    let s = c .before .before .before .before .before .before .before .before .before .before .before .before .before .before .before .before .before .before .before .before .before .before .before .before .before .before .before .before .before .before .before .before .before .before .before .before .before .before .before .before .before .before .before .before .before .before .before .before .before .before .before in
+    let a = s .args in
+    let r = ready s in
+    let e = old-tier (a .s) (a .words .now) (a .clauses .now) (a .irred .now) (a .core .now) (a .mid .now) (a .local .now) (a .levels .now) (a .cref .0) (four-lengths s) r _ (c .before .before .before .before .before .before .before .before .before .before .before .before .before .before .before .before .before .before .before .before .before .before .before .before .before .before .before .before .before .before .before .before .before .before .before .bump-activity .ensures) _ (c .before .before .before .before .before .before .before .before .before .before .before .before .before .before .before .before .before .before .before .before .before .before .before .before .before .before .before .before .activate .ensures) _ (c .before .before .before .before .before .before .before .before .before .before .before .before .before .before .before .before .before .before .before .before .before .before .before .before .before .before .before .before .before .before .before .before .before .before .before .before .before .before .glue-now .ensures) _ (c .before .before .before .before .before .before .before .before .before .before .before .before .before .before .before .before .before .before .before .before .before .before .before .before .glue-of .ensures .0) (c .before .before .before .before .before .before .before .before .before .before .before .before .before .before .before .before .before .before .before .before .before .before .before .if1 .left) _ (c .before .before .before .before .before .before .before .before .before .before .before .before .before .before .before .before .before .before .before .before .before .store-glue .ensures) _ (c .before .before .before .before .before .before .before .before .before .before .before .before .before .before .before .before .before .before .tier-chosen .ensures .0) _ (c .before .before .before .before .before .before .before .before .before .before .before .before .before .before .before .before .tier-at .ensures .0) (c .before .before .before .before .before .before .before .before .before .before .before .before .before .before .before .before .before .before .before .before .before .before .before .before .before .before .before .before .before .before .before .before .before .before .before .bump-activity .kept .0) in
+    subst (λ (x : ℕ). 1 ≤ at (a .s .counts) x) (sym e) (r .counted)
 
--- src/lib.rt:154:5
 mul-counts-2 : tie.Need-mul-counts-2
 mul-counts-2 c = search needs
 
--- src/lib.rt:154:5
 array-write-counts : tie.Need-array-write-counts
 array-write-counts c = search needs
 
--- src/lib.rt:155:20
 mul-counts-3 : tie.Need-mul-counts-3
 mul-counts-3 c = search needs
 
--- src/lib.rt:155:20
 array-read-counts-2 : tie.Need-array-read-counts-2
 array-read-counts-2 c = search needs
 
--- src/lib.rt:155:20
 add-counts : tie.Need-add-counts
-add-counts c = ?
+add-counts c =
+    let s = c .before .before .before .before .before .before .before .before .before .before .before .before .before .before .before .before .before .before .before .before .before .before .before .before .before .before .before .before .before .before .before .before .before .before .before .before .before .before .before .before .before .before .before .before .before .before .before .before .before .before .before in
+    let a = s .args in
+    let r = ready s in
+    let t = c .before .before .before .before .before .before .before .before .before .before .before .before .before .before .before .before .before .before .tier-chosen .result in
+    let f = other-count (a .s .counts) (c .before .before .before .before .before .before .before .before .before .before .before .before .before .before .before .before .tier-at .result) t (2 ^ 22) (c .before .before .before .before .before .before .before .before .before .before .before .before .before .before .before .if2 .left) (r .count t (c .before .before .before .before .before .before .before .before .before .before .before .before .before .before .before .before .before .before .tier-chosen .ensures .1)) in
+    omega arith
 
--- src/lib.rt:155:5
 mul-counts-4 : tie.Need-mul-counts-4
 mul-counts-4 c = search needs
 
--- src/lib.rt:155:5
 array-write-counts-2 : tie.Need-array-write-counts-2
 array-write-counts-2 c = search needs
 
--- src/lib.rt:92:1
 same-length-5 : tie.Need-same-length-5
-same-length-5 c = ?
+same-length-5 c =
+    let s = c .before .before .before .before .before .before .before .before .before .before .before .before .before .before .before .before .before .before .before .before .before .before .before .before .before .before .before .before .before .before .before .before .before .before .before .before .before .before .before .before .before .before .before .before .before .before .before .before .before .before .before in
+    let a = s .args in
+    let r = ready s in
+    let l = c .before .before .before .before .before .before .before .before .before .before .before .before .before .before .before .before .before .before .before .before .before .before .before .before .before .before .before .before .before .before .before .before .before .before .before .bump-activity .kept .0 in
+    let m = c .before .before .before .before .before .before .before .before .before .before .before .before .before .before .before .before .before .before .before .before .before .before .before .before .before .before .before .before .activate .kept .0 in
+    let o = c .before .before .before .before .before .before .before .before .before .before .before .before .before .before .before .before .before .before .before .before .before .store-glue .kept .0 in
+    length-set {A = ℕ} (c .before .before .before .before .before .before .before .before .before .before .before .before .before .before .before .before .before .before .before .before .before .store-glue .last .0) (a .cref .0 + 1) (c .before .before .before .before .before .before .before .before .before .before .before .before .before .with-tier .result) ∙ o ∙ m ∙ l
 
--- src/lib.rt:92:1
 same-length-6 : tie.Need-same-length-6
 same-length-6 c = search needs
 
--- src/lib.rt:92:1
 same-length-7 : tie.Need-same-length-7
 same-length-7 c = search needs
 
--- src/lib.rt:92:1
 same-length-8 : tie.Need-same-length-8
 same-length-8 c = search needs
 
--- src/lib.rt:92:1
 same-length-9 : tie.Need-same-length-9
 same-length-9 c = search needs
 
--- src/lib.rt:92:1
 same-length-10 : tie.Need-same-length-10
 same-length-10 c = search needs
 
--- src/lib.rt:92:1
 returns-3 : tie.Need-returns-3
-returns-3 c = ?
+returns-3 c =
+    let s = c .before .before .before .before .before .before .before .before .before .before .before .before .before .before .before .before .before .before .before .before .before .before .before .before .before .before .before .before .before .before .before .before .before .before .before .before .before .before .before .before .before .before .before .before .before .before .before .before .before .before .before in
+    let a = s .args in
+    let r = ready s in
+    let t = c .before .before .before .before .before .before .before .before .push .ensures in
+    bump-moved (a .s) (a .words .now) (a .clauses .now) (a .irred .now) (a .core .now) (a .mid .now) (a .local .now) (a .levels .now) (a .cref .0) (four-lengths s) r _ (c .before .before .before .before .before .before .before .before .before .before .before .before .before .before .before .before .before .before .before .before .before .before .before .before .before .before .before .before .before .before .before .before .before .before .before .bump-activity .ensures) _ (c .before .before .before .before .before .before .before .before .before .before .before .before .before .before .before .before .before .before .before .before .before .before .before .before .before .before .before .before .activate .ensures) _ (c .before .before .before .before .before .before .before .before .before .before .before .before .before .before .before .before .before .before .before .before .before .before .before .before .before .before .before .before .before .before .before .before .before .before .before .before .before .before .glue-now .ensures) _ (c .before .before .before .before .before .before .before .before .before .before .before .before .before .before .before .before .before .before .before .before .before .before .before .before .glue-of .ensures .0) (c .before .before .before .before .before .before .before .before .before .before .before .before .before .before .before .before .before .before .before .before .before .before .before .if1 .left) _ (c .before .before .before .before .before .before .before .before .before .before .before .before .before .before .before .before .before .before .before .before .before .store-glue .ensures) _ (c .before .before .before .before .before .before .before .before .before .before .before .before .before .before .before .before .before .before .tier-chosen .ensures .0) _ (c .before .before .before .before .before .before .before .before .before .before .before .before .before .before .before .before .tier-at .ensures .0) (c .before .before .before .before .before .before .before .before .before .before .before .before .before .before .before .if2 .left) _ _ (c .before .before .before .before .before .before .before .before .before .before .before .before .before .with-tier .ensures) refl _ _ (t .0) (t .1)
 
 pub bump-spec : {M : Type 1} → statement M
 bump-spec =

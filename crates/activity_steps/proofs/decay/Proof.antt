@@ -9,7 +9,7 @@ four-lengths : (c : tie.Start) → length (c .args .s .tiers) ≡ 4
 four-lengths c = search needs
 
 decay-activity-requires : tie.Need-decay-activity-requires
-decay-activity-requires c κs = 
+decay-activity-requires c κs =
     let s = c .before .before .before .before .before .before .before .before .before .before .before in
     let a = s .args in
     decay-ready (a .s) (a .words .now) (a .clauses .now) (a .irred .now) (a .core .now) (a .mid .now) (a .local .now) (four-lengths s) (s .pre)
@@ -21,7 +21,7 @@ same-length-2 : tie.Need-same-length-2
 same-length-2 c = search needs
 
 returns : tie.Need-returns
-returns c = 
+returns c =
     let s = c .before .before .before .before .before .before .before .before .before .before .before .before .before .before .before .before .before in
     let a = s .args in
     decay-laid (a .s) (a .words .now) (a .clauses .now) (a .irred .now) (a .core .now) (a .mid .now) (a .local .now) (four-lengths s) (s .pre) _ (c .before .before .before .before .before .decay-activity .ensures)

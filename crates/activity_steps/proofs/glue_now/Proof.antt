@@ -31,13 +31,13 @@ part-compute-glue-end : tie.Need-part-compute-glue-end
 part-compute-glue-end c = search needs
 
 compute-glue-requires : tie.Need-compute-glue-requires
-compute-glue-requires c κs = 
+compute-glue-requires c κs =
     let s = c .before .before .before .before in
     let a = s .args in
     subst (Levelled (a .levels .now)) (sym (part-lits (a .words .now) (a .offset) _ (c .before .word .ensures .0) (s .pre .0))) (s .pre .2)
 
 returns : tie.Need-returns
-returns c = 
+returns c =
     let s = c .before .before .before .before .before in
     let a = s .args in
     c .compute-glue .ensures ∙ ap (glueFor (a .levels .now)) (part-lits (a .words .now) (a .offset) _ (c .before .before .word .ensures .0) (s .pre .0))
