@@ -1,19 +1,20 @@
 -- Bumping, on what is lent. Assumes nothing.
 use mathlib.Core.Path.{_≡_, refl, sym, ap, ap₂, _∙_, subst}
-use mathlib.Core.Bool.{Bool, true, false, cond, _&&_}
+use mathlib.Core.Bool.{Bool, true, false, cond, not, _&&_}
 use mathlib.Core.Logic.{⊎-elim, _⊎_, inl, inr}
 use mathlib.Core.List.{List, [], _∷_, _++_}
 use Prim.Native.Nat.{ℕ, zero, suc, _+_, _-_, _*_, _^_, _≤_, _<_, max}
 use native.Mathlib.Decide.{ℕ-discrete, decLe}
 use native.Mathlib.Omega.{arith}
 use lib.ListN.{length, set, take, drop, replicate, length-append, length-set}
-use lib.Seq.{length-take-le, getD-set-same, getD-set-other}
+use lib.Seq.{length-take-le, getD-take, getD-set-other}
 use lib.Dec.{eqb, ltb}
 use lib.Ieee.{lt, toBits, binary32}
-use borrow.Author.Tests.{eq-eqb, ne-eqb, lt-ltb, le-ltb, not-true}
-use Rattle.laws.specs.Fold.{foldList}
-use Rattle.laws.specs.Lists.{at, listAt, elem, more, less, push, lengths, takeEach, fill, fillEach}
-use Rattle.laws.proofs.Folds.{and-left, and-right, count-le}
+use borrow.Author.Tests.{eq-eqb, ne-eqb, lt-ltb, le-ltb, le-leb, lt-leb}
+use Rattle.laws.specs.Fold.{foldList, allBelow}
+use Rattle.laws.specs.Lists.{at, listAt, elem, snoc, more, less, push, lengths, takeEach, fill, fillEach}
+use Rattle.laws.proofs.Folds.{and-left, and-right, count-le, all-of, all-fails}
+use Rattle.laws.proofs.Tests.{and-true}
 use Rattle.laws.proofs.Filling.{take-fill}
 use Rattle.laws.proofs.Fills.{fill-same}
 use Rattle.laws.proofs.Entries.{elem-place, elem-index}
@@ -25,7 +26,7 @@ use Rattle.kinds.specs.Clauses.{headAt, lenAt, glueAt, tierAt, endAt, litsAt, d
 use Rattle.kinds.specs.Floats.{limit, limitBits, activityOk, bumpOk, scaled}
 use Rattle.kinds.specs.Lent.{Lent, Parts, lentFive, levelsOnly, withTierBuffers, withWordBuffer}
 use Rattle.kinds.specs.Held.{Held, withWords, withCounts, withTiers}
-use Rattle.kinds.specs.Layout.{view, side, lay, layState, layHost}
+use Rattle.kinds.specs.Layout.{view, side, lay, layState, layHost, fit, fitTier}
 use Rattle.kinds.specs.Setters.{stateOf, withListed, withClauseActivity, withTierLengths, withTierCounts}
 use Rattle.kinds.specs.declared.State.{State}
 use Rattle.kinds.specs.declared.ClauseActivity.{ClauseActivity}
@@ -35,24 +36,29 @@ use Rattle.calls.specs.Call.{Command, bump, parts, fiveListsLevels}
 use Rattle.calls.specs.StorePasses.{placed, wordsPass, liveIn}
 use Rattle.calls.specs.Adding.{movedTo, tierSet}
 use Rattle.calls.specs.Bumping.{glueFor, tierFor, scaledAt, rescaled, sumFor, activityRaised, activityBumped, activated, glueStored, glueLowered, newGlue, bumped}
-use Rattle.calls.specs.Refusing.{own}
-use Rattle.calls.specs.Outcome.{judged, refusedFor, hasRoom, step, ownNumber}
+use Rattle.calls.specs.Refusing.{own, lowest, notLive}
+use Rattle.calls.specs.Outcome.{judged, refusedFor, hasRoom, step, orElse, ownNumber}
 use Rattle.calls.proofs.Laws.{not-refused, has-room}
 use Rattle.calls.proofs.Readings.{words-pass, held-words, levels-pass, rising-read}
 use Rattle.calls.proofs.Judged.{sizes-judged, store-judged, host-judged, vars-high, words-sized, clauses-sized, tier-sized, levels-long, tier-fits}
-use Rattle.calls.proofs.Given.{first-not, live-right}
+use Rattle.calls.proofs.Given.{first-not, gives, passes-on, live-right}
 use Rattle.calls.proofs.Live.{LiveThere, live-there}
 use Rattle.calls.proofs.Unchanged.{tiers-within}
 use Rattle.activity.specs.Stored.{Stored, Bounded, Away, holding, stored}
 use Rattle.activity.proofs.Ready.{bounded, floats-ok, reference-within, reference-activity, reference-away}
 use Rattle.activity.proofs.Scaling.{each-undeleted}
 use Rattle.activity.proofs.Whole.{lentWith, heldParts, putParts, view-bumped, lay-on}
+use Rattle.judge_words.proofs.Whole.{placed-same}
 use Rattle.db_steps.proofs.Long.{grown}
+use Rattle.activity_steps.proofs.Decaying.{undeleted-fewer}
 use Rattle.assess.specs.Levelled.{Levelled}
 use Rattle.assess.proofs.Ready.{levelled}
 
 glue-tier : (g x : ℕ) → tierOf (withGlue g x) ≡ tierOf x
 glue-tier g x = omega arith
+
+active-glue : (x : ℕ) → glueOf (withActive true x) ≡ glueOf x
+active-glue x = omega arith
 
 active-tier : (x : ℕ) → tierOf (withActive true x) ≡ tierOf x
 active-tier x = omega arith
@@ -63,6 +69,11 @@ scaled-off : (l ws : List ℕ) (p : ℕ) → ((i : ℕ) → i < length l → at 
 unfolding foldList scaledAt
 scaled-off [] ws p h = refl
 scaled-off (o ∷ l) ws p h = scaled-off l (scaledAt ws o) p (λ i k. h (suc i) (omega arith)) ∙ at-other ws o (scaled (at ws o)) p (λ e. h zero (omega arith) (sym e))
+
+scaled-long : (l ws : List ℕ) → length (foldList scaledAt ws l) ≡ length ws
+unfolding foldList scaledAt
+scaled-long [] ws = refl
+scaled-long (o ∷ l) ws = scaled-long l (scaledAt ws o) ∙ length-set ws o (scaled (at ws o))
 
 module _ (words list : List ℕ) (o : ℕ) (a : ClauseActivity) (h : Held) (w : h .words ≡ words) (c : h .clauses ≡ list) (apart : (i : ℕ) → i < length list → at list i ≡ o + 1 → ⊥) where
   raised-head : headAt (activityRaised o h .words) o ≡ headAt words o
@@ -80,6 +91,25 @@ module _ (words list : List ℕ) (o : ℕ) (a : ClauseActivity) (h : Held) (w : 
           ap (λ (l : List ℕ). at (foldList scaledAt (activityRaised o h .words) (undeleted (activityRaised o h .words) l)) (o + 1)) c
           ∙ scaled-off (undeleted (activityRaised o h .words) list) (activityRaised o h .words) (o + 1) far ∙ raised-head
       go false = raised-head
+
+  pub bumped-length : length (activityBumped o h .words) ≡ length words
+  unfolding activityBumped rescaled
+  bumped-length = go (lt limit (sumFor o h))
+    where
+      raised : length (activityRaised o h .words) ≡ length words
+      raised = length-set (h .words) o (toBits binary32 (sumFor o h)) ∙ ap length w
+
+      go : (b : Bool) → length (cond b (rescaled (activityRaised o h)) (activityRaised o h) .words) ≡ length words
+      go true = scaled-long (undeleted (activityRaised o h .words) (h .clauses)) (activityRaised o h .words) ∙ raised
+      go false = raised
+
+  pub bumped-fewer : length (activityBumped o h .clauses) ≤ length list
+  unfolding activityBumped rescaled
+  bumped-fewer = go (lt limit (sumFor o h))
+    where
+      go : (b : Bool) → length (cond b (rescaled (activityRaised o h)) (activityRaised o h) .clauses) ≤ length list
+      go true = let e = undeleted-fewer (activityRaised o h .words) (h .clauses) in let f : length (h .clauses) ≡ length list = ap length c in omega arith
+      go false = let f : length (h .clauses) ≡ length list = ap length c in omega arith
 
 -- ---- laying, where the words alone change, or a tier's list besides
 
@@ -192,6 +222,26 @@ module _ (s : State) (words clauses irred core mid local levels : List ℕ) (o :
       near (no e) (yes y) f g i = f (omega arith)
       near (no e) (no y) f g i = g (omega arith)
 
+  -- what the search for the clause stands on
+  pub record ListsReady : Type 0 where
+    pub used : s .words ≤ length words
+    pub listed : n ≤ length clauses
+    pub placed : placed words (s .words) clauses n ≡ true
+
+  pub lists-ready : judged fiveListsLevels k ≡ 0 → ListsReady
+  unfolding view wordsPass
+  lists-ready j =
+      let p = fiveListsLevels in
+      let z = sizes-judged p k j in
+      let l = clauses-sized p k z refl in
+      let len : length (take n clauses) ≡ n = length-take-le n clauses (l .used) in
+      let pass = and-left _ _ (words-pass p h (store-judged p k j) refl) in
+      record {
+        used = words-sized p k z refl .used;
+        listed = l .used;
+        placed = sym (placed-same words (take n clauses) clauses n (λ i q. getD-take n clauses i 0 q) (s .words)) ∙ subst (λ (m : ℕ). placed words (s .words) (take n clauses) m ≡ true) len pass;
+      }
+
   abbrev G : Held
   G = activityBumped o (heldParts k)
 
@@ -238,6 +288,117 @@ module _ (s : State) (words clauses irred core mid local levels : List ℕ) (o :
       other-tier-is : (tierAt (glued g) o ≡ tierFor g → ⊥) → movedTo (tierFor g) o (glueStored g o (activated o (view k₁))) ≡ bumped o h
       unfolding tierSet glueStored activated glued view
       other-tier-is e = ap (λ (b : Bool). cond b (glueStored g o (activated o (view k₁))) (movedTo (tierFor g) o (glueStored g o (activated o (view k₁))))) (sym (ne-eqb (tierAt (glued g) o) (tierFor g) e)) ∙ lowered-is q
+
+  -- ---- 6 and 11
+
+  -- b is what the search gave
+  pub refused-dead : (b : Bool) → b ≡ isLive words (take n clauses) o → not b ≡ true → 6 ≡ ownNumber (bump o) k
+  unfolding ownNumber refusedFor own notLive view
+  refused-dead b e f = sym (ap (λ (x : ℕ). orElse x (cond (hasRoom (bump o) k) 0 11)) (gives 6 (not (isLive words (take n clauses) o)) [] (ap not (sym e) ∙ f)))
+
+  module _ (r : BumpReady) where
+    -- what is left is the room
+    own-room : (x : Held) → x ≡ bumped o h → (b : Bool) → fit fiveListsLevels k x ≡ b → cond b 0 11 ≡ ownNumber (bump o) k
+    unfolding ownNumber refusedFor own lowest notLive view hasRoom step parts
+    own-room x e b f =
+        sym
+        (ap₂ (λ (y : ℕ) (z : Bool). orElse y (cond z 0 11)) (passes-on 6 (not (isLive words (take n clauses) o)) [] (ap not (r .live)))
+        (ap (fit fiveListsLevels k) (sym e) ∙ f))
+
+    active-head : headAt active o ≡ withActive true (headAt words o)
+    active-head =
+        let l = bumped-length words (take n clauses) o (s .activity) (heldParts k) refl refl (r .apart) in
+        let f = r .ends in
+        at-same (G .words) (o + 1) (withActive true (headAt (G .words) o)) (omega arith) ∙ ap (withActive true) (bumped-head words (take n clauses) o (s .activity) (heldParts k) refl refl (r .apart))
+
+    active-glue-is : glueAt active o ≡ glueAt words o
+    active-glue-is = ap glueOf active-head ∙ active-glue (headAt words o)
+
+    glued-tier-is : (g : ℕ) → tierAt (glued g) o ≡ tierAt words o
+    unfolding glued
+    glued-tier-is g =
+        let l = bumped-length words (take n clauses) o (s .activity) (heldParts k) refl refl (r .apart) in
+        let m : length active ≡ length (G .words) = length-set (G .words) (o + 1) (withActive true (headAt (G .words) o)) in
+        let f = r .ends in
+        ap tierOf (at-same active (o + 1) (withGlue g (headAt active o)) (omega arith)) ∙ glue-tier g (headAt active o) ∙ ap tierOf active-head ∙ active-tier (headAt words o)
+
+    clauses-fit : n ≤ length clauses → length (view k₁ .clauses) ≤ length clauses
+    clauses-fit q =
+        let e : length (view k₁ .clauses) ≡ length (G .clauses) = ap length list-same in
+        let f = bumped-fewer words (take n clauses) o (s .activity) (heldParts k) refl refl (r .apart) in
+        let t = length-take-le n clauses q in
+        omega arith
+
+    module _ (used : s .words ≤ length words) (fits : n ≤ length clauses) where
+      fit-by : (x : Held) → x .used ≡ s .words → x .clauses ≡ view k₁ .clauses → fit fiveListsLevels k x ≡ allBelow (fitTier k x) 4
+      unfolding fit
+      fit-by x u c =
+          let e : length (x .clauses) ≡ length (view k₁ .clauses) = ap length c in
+          let f = clauses-fit fits in
+          ap₂ (λ (a b : Bool). (a && b) && (allBelow (fitTier k x) 4 && true)) (le-leb (x .used) (length words) (omega arith)) (le-leb (length (x .clauses)) (length clauses) (omega arith)) ∙ and-true (allBelow (fitTier k x) 4)
+
+      list-length : (t : ℕ) → length (listAt (takeEach (s .tiers) (k .tiers)) t) ≡ at (s .tiers) t
+      list-length t = sym (at-lengths (takeEach (s .tiers) (k .tiers)) t) ∙ ap (λ (l : List ℕ). at l t) (lengths-each (s .tiers) (k .tiers) (r .within))
+
+      kept-fits : (x : Held) → x .tiers ≡ takeEach (s .tiers) (k .tiers) → allBelow (fitTier k x) 4 ≡ true
+      unfolding fitTier
+      kept-fits x t = all-of (fitTier k x) 4
+          (λ i q. let e : length (listAt (x .tiers) i) ≡ at (s .tiers) i = ap (λ (ts : List (List ℕ)). length (listAt ts i)) t ∙ list-length i in let f = r .used i q in le-leb (length (listAt (x .tiers) i)) (length (listAt (k .tiers) i)) (omega arith))
+
+      module _ (t : ℕ) (t-low : t < 4) (x : Held) (tx : x .tiers ≡ push t o (takeEach (s .tiers) (k .tiers))) where
+        here-long : length (listAt (x .tiers) t) ≡ at (s .tiers) t + 1
+        here-long = ap (λ (ts : List (List ℕ)). length (listAt ts t)) tx ∙ grown s words clauses irred core mid local four t o t-low (r .used)
+
+        moved-fits : at (s .tiers) t < length (listAt (k .tiers) t) → allBelow (fitTier k x) 4 ≡ true
+        unfolding fitTier
+        moved-fits q = all-of (fitTier k x) 4 (λ i z. le-leb (length (listAt (x .tiers) i)) (length (listAt (k .tiers) i)) (go i z (ℕ-discrete i t)))
+          where
+            go : (i : ℕ) → i < 4 → Dec (i ≡ t) → length (listAt (x .tiers) i) ≤ length (listAt (k .tiers) i)
+            go i z (yes e) = subst (λ (y : ℕ). length (listAt (x .tiers) y) ≤ length (listAt (k .tiers) y)) (sym e) (let f = here-long in omega arith)
+            go i z (no e) =
+                let f : length (listAt (x .tiers) i) ≡ length (listAt (takeEach (s .tiers) (k .tiers)) i) = ap (λ (ts : List (List ℕ)). length (listAt ts i)) tx ∙ ap length (getD-set-other (takeEach (s .tiers) (k .tiers)) t i (snoc (listAt (takeEach (s .tiers) (k .tiers)) t) o) [] e) in
+                let g = list-length i in
+                let u = r .used i z in
+                omega arith
+
+        moved-lacks : length (listAt (k .tiers) t) ≤ at (s .tiers) t → allBelow (fitTier k x) 4 ≡ false
+        unfolding fitTier
+        moved-lacks q = all-fails (fitTier k x) t 4 t-low (lt-leb (length (listAt (x .tiers) t)) (length (listAt (k .tiers) t)) (let f = here-long in omega arith))
+
+      -- ---- each way: b the stored glue, g the new one, t the tier chosen, old the clause's
+      module _ (g : ℕ) (eg : g ≡ glueFor levels (litsAt words o)) (b : ℕ) (eb : b ≡ glueAt words o) where
+        pub refused-kept : b ≤ g → 0 ≡ ownNumber (bump o) k
+        unfolding activated view
+        refused-kept q =
+            let x : Held = activated o (view k₁) in
+            let e = active-glue-is in
+            own-room x (kept-is g eg (omega arith)) true (fit-by x refl refl ∙ kept-fits x refl)
+
+        module _ (q : g < b) (t : ℕ) (et : t ≡ tierFor g) (t-low : t < 4) (old : ℕ) (eo : old ≡ tierAt words o) where
+          lower : g < glueAt active o
+          lower = let e = active-glue-is in omega arith
+
+          pub refused-same : old ≡ t → 0 ≡ ownNumber (bump o) k
+          unfolding activated glueStored view
+          refused-same f =
+              let x : Held = glueStored g o (activated o (view k₁)) in
+              own-room x (same-tier-is g eg lower (glued-tier-is g ∙ sym eo ∙ f ∙ et)) true (fit-by x refl refl ∙ kept-fits x refl)
+
+          module _ (f : old ≡ t → ⊥) where
+            there : movedTo t o (glueStored g o (activated o (view k₁))) ≡ bumped o h
+            there = ap (λ (y : ℕ). movedTo y o (glueStored g o (activated o (view k₁)))) et ∙ other-tier-is g eg lower (λ z. f (eo ∙ sym (glued-tier-is g) ∙ z ∙ sym et))
+
+            pub refused-room : at (s .tiers) t < length (listAt (k .tiers) t) → 0 ≡ ownNumber (bump o) k
+            unfolding movedTo activated glueStored view
+            refused-room z =
+                let x : Held = movedTo t o (glueStored g o (activated o (view k₁))) in
+                own-room x there true (fit-by x refl refl ∙ moved-fits t t-low x refl z)
+
+            pub refused-full : length (listAt (k .tiers) t) ≤ at (s .tiers) t → 11 ≡ ownNumber (bump o) k
+            unfolding movedTo activated glueStored view
+            refused-full z =
+                let x : Held = movedTo t o (glueStored g o (activated o (view k₁))) in
+                own-room x there false (fit-by x refl refl ∙ moved-lacks t t-low x refl z)
 
   -- from the refusals: the reference is a live clause
   pub bump-live : ownNumber (bump o) k ≡ 0 → isLive words (take n clauses) o ≡ true

@@ -29,7 +29,7 @@ use Rattle.activity.specs.Stored.{Stored, Bounded, holding, stored}
 use Rattle.activity.proofs.Ready.{tiers-within, bounded}
 use Rattle.activity.proofs.Whole.{lentWith, laid-decayed}
 
-undeleted-fewer : (w os : List ℕ) → length (undeleted w os) ≤ length os
+pub undeleted-fewer : (w os : List ℕ) → length (undeleted w os) ≤ length os
 unfolding undeleted
 undeleted-fewer w [] = omega arith
 undeleted-fewer w (o ∷ os) = go (deletedAt w o) (undeleted-fewer w os)

@@ -165,3 +165,43 @@ pub fn bump(
         activity: kept,
     }
 }
+
+// 6, and 11 where the tier is chosen anew and its list is full.
+pub fn refuse_bump(
+    s: State,
+    words: &[u32],
+    clauses: &[u32],
+    irred: &[u32],
+    core: &[u32],
+    mid: &[u32],
+    local: &[u32],
+    levels: &[u32],
+    cref: ClauseRef,
+) -> usize
+    requires { ⌜ judged fiveListsLevels (lentFive s (now words) (now clauses) (now irred) (now core) (now mid) (now local) (levelsOnly (now levels))) ≡ 0 ⌝ }
+    ensures { λ r. ⌜ r ≡ ownNumber (bump (cref .0)) (lentFive s (now (words .entry)) (now (clauses .entry)) (now (irred .entry)) (now (core .entry)) (now (mid .entry)) (now (local .entry)) (levelsOnly (now (levels .entry)))) ⌝ }
+{
+    let offset = cref.0 as usize;
+    let used = s.words;
+    let n = s.clauses;
+    let lens = s.tiers;
+    if !judge_words::is_live(words, used, clauses, n, offset) {
+        return 6;
+    }
+    let glue = glue_now(words, levels, offset);
+    let head = words[offset + 1];
+    let before = header::glue_of(head) as usize;
+    if before <= glue {
+        return 0;
+    }
+    let tier = tier_chosen(glue);
+    let old = header::tier_of(head) as usize;
+    if old == tier {
+        return 0;
+    }
+    let room = tier_lists::room(irred.len(), core.len(), mid.len(), local.len(), tier);
+    if lens[tier] < room {
+        return 0;
+    }
+    11
+}
