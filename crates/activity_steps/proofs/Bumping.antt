@@ -1,38 +1,34 @@
 -- Bumping, on what is lent. Assumes nothing.
 use mathlib.Core.Path.{_≡_, refl, sym, ap, ap₂, _∙_, subst}
 use mathlib.Core.Bool.{Bool, true, false, cond, not, _&&_}
-use mathlib.Core.Logic.{⊎-elim, _⊎_, inl, inr}
 use mathlib.Core.List.{List, [], _∷_, _++_}
 use Prim.Native.Nat.{ℕ, zero, suc, _+_, _-_, _*_, _^_, _≤_, _<_, max}
 use native.Mathlib.Decide.{ℕ-discrete, decLe}
 use native.Mathlib.Omega.{arith}
 use lib.ListN.{length, set, take, drop, replicate, length-append, length-set}
 use lib.Seq.{length-take-le, getD-take, getD-set-other}
-use lib.Dec.{eqb, ltb}
 use lib.Ieee.{lt, toBits, binary32}
 use borrow.Author.Tests.{eq-eqb, ne-eqb, lt-ltb, le-ltb, le-leb, lt-leb}
 use Rattle.laws.specs.Fold.{foldList, allBelow}
-use Rattle.laws.specs.Lists.{at, listAt, elem, snoc, more, less, push, lengths, takeEach, fill, fillEach}
-use Rattle.laws.proofs.Folds.{and-left, and-right, count-le, all-of, all-fails}
+use Rattle.laws.specs.Lists.{at, listAt, snoc, more, less, push, lengths, takeEach, fill, fillEach}
+use Rattle.laws.proofs.Folds.{and-left, count-le, all-of, all-fails}
 use Rattle.laws.proofs.Tests.{and-true}
 use Rattle.laws.proofs.Filling.{take-fill}
 use Rattle.laws.proofs.Fills.{fill-same}
-use Rattle.laws.proofs.Entries.{elem-place, elem-index}
-use Rattle.laws.proofs.Members.{In}
 use Rattle.laws.proofs.Pushes.{at-other, at-same}
-use Rattle.laws.proofs.Reading.{length-read, at-read, read-take}
+use Rattle.laws.proofs.Reading.{length-read, at-read}
 use Rattle.kinds.specs.Header.{tierOf, glueOf, withTier, withActive, withGlue}
-use Rattle.kinds.specs.Clauses.{headAt, lenAt, glueAt, tierAt, endAt, litsAt, deletedAt, isLive, undeleted, changeHead}
+use Rattle.kinds.specs.Clauses.{headAt, lenAt, glueAt, tierAt, endAt, litsAt, isLive, undeleted, changeHead}
 use Rattle.kinds.specs.Floats.{limit, limitBits, activityOk, bumpOk, scaled}
 use Rattle.kinds.specs.Lent.{Lent, Parts, lentFive, levelsOnly, withTierBuffers, withWordBuffer}
 use Rattle.kinds.specs.Held.{Held, withWords, withCounts, withTiers}
 use Rattle.kinds.specs.Layout.{view, side, lay, layState, layHost, fit, fitTier}
-use Rattle.kinds.specs.Setters.{stateOf, withListed, withClauseActivity, withTierLengths, withTierCounts}
+use Rattle.kinds.specs.Setters.{stateOf, withTierLengths, withTierCounts}
 use Rattle.kinds.specs.declared.State.{State}
 use Rattle.kinds.specs.declared.ClauseActivity.{ClauseActivity}
 use Rattle.kinds.proofs.RowLayout.{at-lengths}
-use Rattle.kinds.proofs.TierLayout.{Within, lengths-each, each-same, lengths-each-push}
-use Rattle.calls.specs.Call.{Command, bump, parts, fiveListsLevels}
+use Rattle.kinds.proofs.TierLayout.{Within, lengths-each, each-same}
+use Rattle.calls.specs.Call.{bump, parts, fiveListsLevels}
 use Rattle.calls.specs.StorePasses.{placed, wordsPass, liveIn}
 use Rattle.calls.specs.Adding.{movedTo, tierSet}
 use Rattle.calls.specs.Bumping.{glueFor, tierFor, scaledAt, rescaled, sumFor, activityRaised, activityBumped, activated, glueStored, glueLowered, newGlue, bumped}
@@ -42,9 +38,9 @@ use Rattle.calls.proofs.Laws.{not-refused, has-room}
 use Rattle.calls.proofs.Readings.{words-pass, held-words, levels-pass, rising-read}
 use Rattle.calls.proofs.Judged.{sizes-judged, store-judged, host-judged, vars-high, words-sized, clauses-sized, tier-sized, levels-long, tier-fits}
 use Rattle.calls.proofs.Given.{first-not, gives, passes-on, live-right}
-use Rattle.calls.proofs.Live.{LiveThere, live-there}
+use Rattle.calls.proofs.Live.{live-there}
 use Rattle.calls.proofs.Unchanged.{tiers-within}
-use Rattle.activity.specs.Stored.{Stored, Bounded, Away, holding, stored}
+use Rattle.activity.specs.Stored.{Stored, Bounded, Away, stored}
 use Rattle.activity.proofs.Ready.{bounded, floats-ok, reference-within, reference-activity, reference-away}
 use Rattle.activity.proofs.Scaling.{each-undeleted}
 use Rattle.activity.proofs.Whole.{lentWith, heldParts, putParts, view-bumped, lay-on}

@@ -1,8 +1,8 @@
 -- Decay, on what is lent. Assumes nothing.
-use mathlib.Core.Path.{_≡_, refl, sym, ap, _∙_, subst}
-use mathlib.Core.Bool.{Bool, true, false, cond, _&&_}
+use mathlib.Core.Path.{_≡_, refl, sym, ap, _∙_}
+use mathlib.Core.Bool.{Bool, true, false, cond}
 use mathlib.Core.List.{List, [], _∷_}
-use Prim.Native.Nat.{ℕ, _≤_, _<_}
+use Prim.Native.Nat.{ℕ, _≤_}
 use native.Mathlib.Omega.{arith}
 use lib.ListN.{length, take}
 use lib.Seq.{length-take-le}
@@ -10,7 +10,6 @@ use lib.Ieee.{le}
 use borrow.Author.Tests.{le-leb}
 use Rattle.laws.specs.Lists.{at, listAt, takeEach}
 use Rattle.laws.proofs.Folds.{and-both, all-of}
-use Rattle.laws.proofs.Filling.{Within}
 use Rattle.kinds.specs.Clauses.{deletedAt, undeleted}
 use Rattle.kinds.specs.Floats.{limit, limitBits}
 use Rattle.kinds.specs.Lent.{Lent, lentFive, noHost}
@@ -19,7 +18,7 @@ use Rattle.kinds.specs.Layout.{view, lay, fit, fitTier}
 use Rattle.kinds.specs.declared.State.{State}
 use Rattle.kinds.proofs.RowLayout.{at-lengths}
 use Rattle.kinds.proofs.TierLayout.{lengths-each}
-use Rattle.calls.specs.Call.{Command, decay, parts, fiveLists}
+use Rattle.calls.specs.Call.{decay, parts, fiveLists}
 use Rattle.calls.specs.Bumping.{rescaled, bumpGrown, decayed}
 use Rattle.calls.specs.Refusing.{own, lowest}
 use Rattle.calls.specs.Outcome.{judged, refusedFor, hasRoom, step, ownNumber}

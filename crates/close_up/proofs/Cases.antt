@@ -1,28 +1,23 @@
 -- Each way through `redirect`: l the first literal, x its variable. Assumes nothing.
-use mathlib.Core.Path.{_≡_, refl, sym, ap, _∙_}
-use mathlib.Core.Bool.{Bool, true, false, cond, _&&_}
-use mathlib.Core.Logic.{⊎-elim, _⊎_, inl, inr}
+use mathlib.Core.Path.{_≡_, sym, ap, _∙_}
+use mathlib.Core.Logic.{_⊎_}
 use mathlib.Core.List.{List}
-use Prim.Native.Nat.{ℕ, _/_}
-use native.Mathlib.Omega.{arith}
+use Prim.Native.Nat.{ℕ}
 use denote.Enum.Declared.{tagOf}
 use lib.ListN.{set}
-use lib.Dec.{eqb}
-use borrow.Author.Tests.{eqb-true, eq-eqb, ne-eqb}
+use borrow.Author.Tests.{eq-eqb, ne-eqb}
 use Rattle.laws.specs.Lists.{at}
 use Rattle.kinds.specs.Clauses.{varOf}
-use Rattle.kinds.specs.Held.{isTrue, isOpen, valueOf, nodeOf}
+use Rattle.kinds.specs.Held.{valueOf, nodeOf}
 use Rattle.kinds.specs.Numbers.{reasonOf}
 use Rattle.kinds.specs.declared.ClauseRef.{ClauseRef}
 use Rattle.kinds.specs.declared.LitValue.{LitValue}
 use Rattle.kinds.proofs.LitValue as value
-use Rattle.kinds.specs.declared.LitValue.the-variants.{True, False, Unassigned}
 use Rattle.kinds.specs.declared.Node.{Node}
-use Rattle.kinds.specs.declared.Reason.{Reason}
 use Rattle.kinds.proofs.Reason as reason
-use Rattle.kinds.specs.declared.Reason.the-variants.{None, Unit, Binary, Long, Removed}
+use Rattle.kinds.specs.declared.Reason.the-variants.{Long}
 use Rattle.judge_host.proofs.Literals.{true-told, not-true-told, long-told, not-long-told}
-use Rattle.close_up.specs.Reasons.{assertedBy, redirected}
+use Rattle.close_up.specs.Reasons.{redirected}
 
 module _ (values kinds reasons levels : List ℕ) (l o p : ℕ) {v : LitValue} (told : v ≡ valueOf values l) where
   abbrev goal : List ℕ

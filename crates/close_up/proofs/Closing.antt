@@ -1,5 +1,5 @@
 -- What holds while the live clauses close up. Assumes nothing.
-use mathlib.Core.Path.{_≡_, refl, sym, ap, _∙_, subst}
+use mathlib.Core.Path.{_≡_, refl, sym, ap, _∙_}
 use mathlib.Core.Bool.{Bool, true, false, not}
 use mathlib.Core.List.{List, [], _∷_, _++_, append-assoc, append-nil}
 use Prim.Native.Nat.{ℕ, _+_, _-_, _≤_, _<_}
@@ -7,7 +7,7 @@ use native.Mathlib.Numerals.{add-one}
 use native.Mathlib.Omega.{arith}
 use lib.ListN.{length, set, take, drop, replicate, length-set, drop-of-length-le}
 use lib.Seq.{length-take-le, take-suc-set, drop-set-lt, sets, length-sets}
-use Rattle.laws.specs.Lists.{at, readN, joined, starts, fill}
+use Rattle.laws.specs.Lists.{at, readN, fill}
 use Rattle.laws.proofs.Reading.{length-read, read-same}
 use Rattle.laws.proofs.Tests.{passed, failed}
 use Rattle.kinds.specs.Clauses.{lenAt, sizeAt, endAt, wordsAt, deletedAt}

@@ -1,12 +1,11 @@
 -- Collecting, on what is lent: what the judging establishes, that there is always room, and what the writes come to. Assumes nothing.
 use mathlib.Core.Path.{_≡_, refl, sym, ap, ap₂, _∙_, subst}
-use mathlib.Core.Bool.{Bool, true, false, cond, _&&_}
-use mathlib.Core.List.{List, [], _∷_, _++_}
-use Prim.Native.Nat.{ℕ, zero, suc, _+_, _-_, _*_, _^_, _≤_, _<_, max}
+use mathlib.Core.Bool.{Bool, true, false, cond}
+use mathlib.Core.List.{List, []}
+use Prim.Native.Nat.{ℕ, zero, suc, _+_, _-_, _*_, _^_, _≤_, _<_}
 use native.Mathlib.Omega.{arith}
-use lib.ListN.{length, take, drop, replicate}
-use lib.Seq.{length-take-le, take-append-seam}
-use lib.Dec.{ltb, leb}
+use lib.ListN.{length, take}
+use lib.Seq.{length-take-le}
 use borrow.Author.Tests.{le-leb, le-ltb, lt-ltb}
 use Rattle.laws.specs.Fold.{foldList}
 use Rattle.laws.specs.Lists.{at, listAt, joined, starts, lengths, takeEach, fill, fillEach}
@@ -21,11 +20,11 @@ use Rattle.kinds.specs.Setters.{stateOf}
 use Rattle.kinds.specs.declared.State.{State}
 use Rattle.kinds.proofs.RowLayout.{at-lengths}
 use Rattle.kinds.proofs.TierLayout.{Within, lengths-each}
-use Rattle.calls.specs.Call.{Command, collect, parts, fiveListsHost}
+use Rattle.calls.specs.Call.{collect, parts, fiveListsHost}
 use Rattle.calls.specs.StorePasses.{placed, clausesOk, wordsPass}
 use Rattle.calls.specs.Refusing.{own, lowest}
 use Rattle.calls.specs.Outcome.{judged, refusedFor, hasRoom, step, ownNumber}
-use Rattle.calls.specs.Collecting.{due, blocks, oldPlaces, liveBlocks, newPlaces, ofTier, byTier, followed, hostFollowed, closedUp, collected}
+use Rattle.calls.specs.Collecting.{due, blocks, ofTier, byTier, followed, hostFollowed, closedUp, collected}
 use Rattle.calls.proofs.Readings.{words-pass, tiers-pass, held-words, held-tier, side-pass, reasons-pass}
 use Rattle.calls.proofs.Judged.{sizes-judged, store-judged, host-judged, words-sized, clauses-sized, tier-sized, levels-long, host-sized}
 use Rattle.calls.proofs.Unchanged.{tiers-within, unchanged}

@@ -1,15 +1,15 @@
 -- A rebuilt tier list is no longer than the list that was there. Assumes nothing.
-use mathlib.Core.Path.{_≡_, refl, sym, ap, ap₂, _∙_, subst}
-use mathlib.Core.Bool.{Bool, true, false, cond, not, true≢false, _&&_}
+use mathlib.Core.Path.{_≡_, refl, sym, ap, _∙_, subst}
+use mathlib.Core.Bool.{Bool, true, false, cond, not}
 use mathlib.Core.Logic.{⊎-elim, _⊎_, inl, inr}
-use mathlib.Core.List.{List, [], _∷_, _++_}
+use mathlib.Core.List.{List, [], _∷_}
 use Prim.Native.Nat.{ℕ, zero, suc, _+_, _-_, _≤_, _<_}
 use native.Mathlib.Omega.{arith}
-use lib.ListN.{length, take, length-append, List·getD-append}
-use lib.Seq.{getD-append-add, take-append-seam}
+use lib.ListN.{length, length-append, List·getD-append}
+use lib.Seq.{getD-append-add}
 use lib.Dec.{eqb}
-use borrow.Author.Tests.{eqb-true, eqb-false, eq-eqb, ne-eqb}
-use Rattle.laws.specs.Lists.{at, listAt, elem, joined, starts, fill}
+use borrow.Author.Tests.{eqb-true, eqb-false, eq-eqb}
+use Rattle.laws.specs.Lists.{at, listAt, joined, starts, fill}
 use Rattle.laws.proofs.Members.{In, Distinct}
 use Rattle.laws.proofs.Entries.{elem-none, elem-here, elem-later, elem-cases, elem-index, elem-place}
 use Rattle.laws.proofs.Pigeonhole.{no-more}
@@ -21,7 +21,7 @@ use Rattle.kinds.specs.Held.{Held}
 use Rattle.calls.specs.StorePasses.{liveAt, liveIn, standsAt}
 use Rattle.calls.specs.Collecting.{blocks, oldPlaces, liveBlocks, newPlaces, ofTier}
 use Rattle.calls.proofs.Readings.{Tier}
-use Rattle.close_up.proofs.Laying.{Laid, laid-le, kept-fits}
+use Rattle.close_up.proofs.Laying.{Laid, kept-fits}
 use Rattle.close_up.proofs.Rebuilding.{of-tier-one, of-tier-other, of-tier-none}
 use Rattle.gc_steps.proofs.Following.{laid-in}
 

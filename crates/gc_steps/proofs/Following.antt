@@ -1,27 +1,27 @@
 -- "long reasons on the trail follow": what the walk by clauses comes to is what the definition says by trail literals. Assumes nothing.
 use mathlib.Core.Path.{_≡_, refl, sym, ap, _∙_, subst}
-use mathlib.Core.Bool.{Bool, true, false, cond, true≢false, not, _&&_}
+use mathlib.Core.Bool.{Bool, true, false, cond, true≢false, not}
 use mathlib.Core.Logic.{⊎-elim, _⊎_, inl, inr}
 use mathlib.Core.List.{List, [], _∷_}
-use Prim.Native.Nat.{ℕ, _+_, _*_, _/_, _%_, _≤_, _<_}
+use Prim.Native.Nat.{ℕ, _+_, _*_, _%_, _≤_, _<_}
 use native.Mathlib.Decide.{ℕ-discrete}
 use native.Mathlib.Omega.{arith}
 use lib.ListN.{length, set, length-set}
 use lib.Seq.{ext-getD}
 use lib.Dec.{eqb}
-use borrow.Author.Tests.{eqb-true, eqb-false, eq-eqb, ne-eqb}
+use borrow.Author.Tests.{eqb-true, eq-eqb, ne-eqb}
 use Rattle.laws.specs.Fold.{foldList}
-use Rattle.laws.specs.Lists.{at, elem, starts}
+use Rattle.laws.specs.Lists.{at, elem}
 use Rattle.laws.proofs.Members.{In}
 use Rattle.laws.proofs.Entries.{elem-none, elem-here, elem-later, elem-cases, elem-index, elem-place}
-use Rattle.laws.proofs.Folds.{and-left, and-right, and-both, any-find, any-at}
+use Rattle.laws.proofs.Folds.{and-left, and-right, any-find, any-at}
 use Rattle.laws.proofs.Choices.{getD-any}
 use Rattle.laws.proofs.Pushes.{at-other, at-same}
 use Rattle.kinds.specs.Clauses.{firstAt, sizeAt, endAt, deletedAt, isLive, undeleted, varOf}
 use Rattle.kinds.specs.Held.{Held, Side, isTrue, byteOf, kindOf, reasonWord}
 use Rattle.calls.specs.HostPasses.{onTrail, variableAt, longReasonsOk}
 use Rattle.calls.specs.Collecting.{oldPlaces, newPlaces, newPlace, followed}
-use Rattle.calls.proofs.Readings.{HostSide, ReasonClause, reason-read}
+use Rattle.calls.proofs.Readings.{HostSide, reason-read}
 use Rattle.close_up.specs.Reasons.{assertedBy, redirected, redirectedAll}
 use Rattle.close_up.proofs.Laying.{Laid, offsets, offsets-live, offsets-deleted}
 use Rattle.close_up.proofs.Redirecting.{length-redirected, all-live, all-deleted, all-none}

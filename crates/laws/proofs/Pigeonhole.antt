@@ -6,7 +6,7 @@ use Prim.Native.Nat.{ℕ, _≤_}
 use native.Mathlib.Omega.{arith}
 use lib.ListN.{length, length-append}
 use Rattle.laws.proofs.Members.{In, Distinct, in-left, in-right, in-append}
-use Rattle.laws.proofs.Entries.{At, elem-here, elem-later, elem-cases, elem-at}
+use Rattle.laws.proofs.Entries.{elem-here, elem-later, elem-cases, elem-at}
 
 -- different entries that all stand in b are at most as many as b has
 pub no-more : (a b : List ℕ) → Distinct a → ((x : ℕ) → In x a → In x b) → length a ≤ length b

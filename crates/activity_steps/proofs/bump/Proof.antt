@@ -1,8 +1,7 @@
-use mathlib.Core.Path.{_≡_, refl, sym, ap, _∙_, subst}
-use mathlib.Core.List.{[], _∷_}
-use Prim.Native.Nat.{ℕ, _+_, _<_, _≤_, _^_}
+use mathlib.Core.Path.{_≡_, refl, sym, _∙_, subst}
+use Prim.Native.Nat.{ℕ, _+_, _≤_, _^_}
 use native.Mathlib.Omega.{arith}
-use lib.ListN.{length, set, length-set}
+use lib.ListN.{length, length-set}
 use Rattle.laws.specs.Lists.{at}
 use Rattle.db_steps.proofs.Tiering.{other-count}
 use Rattle.activity_steps.proofs.Bumping.{BumpReady, bump-ready, bump-live, bump-kept, bump-same, bump-room, bump-moved, old-tier}

@@ -1,4 +1,4 @@
-use mathlib.Core.Path.{_≡_, sym, ap, _∙_, subst}
+use mathlib.Core.Path.{sym, ap, _∙_, subst}
 use Rattle.calls.specs.Bumping.{glueFor}
 use Rattle.assess.specs.Levelled.{Levelled}
 use Rattle.activity_steps.proofs.Heads.{part-lits}

@@ -1,9 +1,9 @@
-use mathlib.Core.Path.{_≡_, refl, sym, _∙_}
+use mathlib.Core.Path.{_≡_, _∙_}
 use native.Mathlib.Omega.{arith}
 use lib.ListN.{length}
 use Rattle.laws.proofs.Tests.{passed}
 use Rattle.activity_steps.proofs.Heads.{room-is}
-use Rattle.activity_steps.proofs.Bumping.{BumpReady, bump-ready, ListsReady, lists-ready, refused-dead, refused-kept, refused-same, refused-room, refused-full}
+use Rattle.activity_steps.proofs.Bumping.{BumpReady, bump-ready, lists-ready, refused-dead, refused-kept, refused-same, refused-room, refused-full}
 use borrow.Author.Needs.{needs}
 use Rattle.activity_steps.proofs.refuse_bump.Statement.{statement}
 use Rattle.activity_steps.proofs.refuse_bump.Tie as tie

@@ -1,12 +1,10 @@
-use mathlib.Core.Path.{_≡_, refl, sym, ap, _∙_, subst}
-use Prim.Native.Nat.{ℕ, _+_, _-_, _≤_, _<_, _^_}
+use mathlib.Core.Path.{_∙_}
+use Prim.Native.Nat.{_-_}
 use native.Mathlib.Omega.{arith}
-use lib.ListN.{length, take, drop, set}
+use lib.ListN.{take}
 use lib.Seq.{length-take-le}
-use Rattle.laws.specs.Lists.{at}
-use Rattle.laws.proofs.Tests.{passed, failed}
 use Rattle.close_up.proofs.Laying.{laid-placed}
-use Rattle.close_up.proofs.Closing.{Closing, Turn, Done, close-start, turn, place-le, close-deleted, close-live, close-end}
+use Rattle.close_up.proofs.Closing.{Closing, Turn, close-start, turn, place-le, close-deleted, close-live, close-end}
 use borrow.Author.Needs.{needs}
 use Rattle.close_up.proofs.close_up.Statement.{statement}
 use Rattle.close_up.proofs.close_up.Tie as tie

@@ -1,10 +1,8 @@
-use mathlib.Core.Path.{_≡_, refl, sym, ap, _∙_}
-use Prim.Native.Nat.{ℕ, _+_, _-_, _≤_, _<_}
+use Prim.Native.Nat.{_-_}
 use native.Mathlib.Omega.{arith}
-use lib.ListN.{length, take}
+use lib.ListN.{take}
 use lib.Seq.{length-take-le}
-use Rattle.laws.specs.Lists.{at}
-use Rattle.laws.proofs.Tests.{passed, failed}
+use Rattle.laws.proofs.Tests.{failed}
 use Rattle.close_up.proofs.Laying.{laid-placed}
 use Rattle.close_up.proofs.Redirecting.{Following, Reached, follow-start, reached, follow-deleted, follow-live, follow-end}
 use borrow.Author.Needs.{needs}

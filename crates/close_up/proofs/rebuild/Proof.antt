@@ -1,8 +1,6 @@
-use mathlib.Core.Path.{_≡_, refl, sym, ap, _∙_}
-use Prim.Native.Nat.{ℕ, _+_, _-_, _≤_, _<_}
+use mathlib.Core.Path.{_∙_}
+use Prim.Native.Nat.{_-_}
 use native.Mathlib.Omega.{arith}
-use lib.ListN.{length, take}
-use Rattle.laws.specs.Lists.{at}
 use Rattle.close_up.proofs.Rebuilding.{Rebuilding, rebuild-start, rebuild-skip, room-for, rebuild-put, rebuilt-count, rebuilt}
 use borrow.Author.Needs.{needs}
 use Rattle.close_up.proofs.rebuild.Statement.{statement}

@@ -1,4 +1,3 @@
-use native.Mathlib.Omega.{arith}
 use Rattle.close_up.proofs.Cases.{not-true, not-long, other-clause, this-clause}
 use borrow.Author.Needs.{needs}
 use Rattle.close_up.proofs.redirect.Statement.{statement}

@@ -1,9 +1,9 @@
-use mathlib.Core.Path.{_≡_, refl}
+use mathlib.Core.Path.{_≡_}
 use Prim.Native.Nat.{_*_, _≤_, _<_}
 use native.Mathlib.Omega.{arith}
 use lib.ListN.{length}
 use Rattle.kinds.specs.Lent.{hostOf}
-use Rattle.gc_steps.proofs.Collecting.{CollectReady, collect-ready, not-due, is-due, kept-laid, places-fit, places-inside, tiers-few, collect-laid}
+use Rattle.gc_steps.proofs.Collecting.{collect-ready, not-due, is-due, kept-laid, places-fit, places-inside, tiers-few, collect-laid}
 use borrow.Author.Needs.{needs}
 use Rattle.gc_steps.proofs.collect.Statement.{statement}
 use Rattle.gc_steps.proofs.collect.Tie as tie
