@@ -19,3 +19,5 @@ pub mod Walks
 pub mod SortLengths
 pub mod Subsets
 pub mod Closing
+pub mod Tails
+pub mod Pigeonhole

@@ -1,0 +1,3 @@
+pub mod Heads
+pub mod Decaying
+pub mod Bumping

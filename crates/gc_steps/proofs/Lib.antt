@@ -1,0 +1,4 @@
+pub mod Following
+pub mod Fewer
+pub mod Four
+pub mod Collecting
