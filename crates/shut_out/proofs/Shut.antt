@@ -4,7 +4,7 @@ use mathlib.Core.Bool.{Bool, true, false, true≢false}
 use mathlib.Core.List.{List, [], _∷_}
 use Prim.Native.Nat.{ℕ, _+_, _≤_, _<_}
 use native.Mathlib.Omega.{arith}
-use lib.ListN.{length}
+use lib.ListN.{length, replicate}
 use Rattle.laws.specs.Fold.{countBelow, sumBelow}
 use Rattle.laws.specs.Lists.{at}
 use Rattle.laws.proofs.Folds.{and-left, and-right}
@@ -12,38 +12,31 @@ use Rattle.kinds.specs.Clauses.{sizeAt}
 use Rattle.kinds.specs.Lent.{Lent}
 use Rattle.kinds.specs.Held.{Held}
 use Rattle.kinds.specs.Layout.{view}
-use Rattle.calls.specs.Call.{Command, addClause, delete, addBinary, collect, unitSimplify, on, everything}
+use Rattle.calls.specs.Call.{Command, delete, collect, start, on, everything}
 use Rattle.calls.specs.Size.{sizesOk}
 use Rattle.calls.specs.StorePasses.{liveIn, liveSize, wordsPass, storePasses}
 use Rattle.calls.specs.Adding.{removed, strikeNoted, struck}
 use Rattle.calls.specs.Outcome.{Outcome, Answer, nothing, reference, rebuild, proved, assessed, part, fields, literal, outcome, step, number, done}
 use Rattle.calls.specs.Compute.{computing}
 use Rattle.calls.specs.Points.{half-empty}
+use Rattle.calls.specs.Small.{fresh, half}
 use Rattle.calls.proofs.Readings.{Words, words-pass, held-words}
 use Rattle.demands.specs.Demands.{wholePasses, TypedCall, Kept}
 use Rattle.passing.proofs.Always.{always-kept, kept-judged}
 use Rattle.account.specs.Four.{Four}
 use Rattle.account.proofs.Running.{view-stepped}
 use Rattle.account.proofs.ShutOut as held
-use Rattle.shut_out.specs.ShutOut.{ShutOut, one-clause}
+use Rattle.shut_out.specs.ShutOut.{ShutOut, one-clause, each-command, numbers}
 
 -- ---- computed on small stores
 
-long-accepted : number (addClause 3 1 (1 ∷ 3 ∷ 5 ∷ [])) one-clause ≡ 0
+each-accepted : numbers each-command one-clause ≡ replicate 18 0
 unfolding computing
-long-accepted = refl
+each-accepted = refl
 
-pair-accepted : number (addBinary (0 ∷ 2 ∷ [])) one-clause ≡ 0
+start-accepted : outcome (start 4 half) (fresh 4 14 3 1 9) .number ≡ 0
 unfolding computing
-pair-accepted = refl
-
-delete-accepted : number (delete 0) one-clause ≡ 0
-unfolding computing
-delete-accepted = refl
-
-simplify-accepted : number unitSimplify one-clause ≡ 0
-unfolding computing
-simplify-accepted = refl
+start-accepted = refl
 
 abbrev emptied : Lent
 emptied = outcome (on (delete 0)) one-clause .then
@@ -102,10 +95,8 @@ garbage-exact o k K z = ap (λ (h : Held). h .garbage) (view-stepped (delete o) 
 pub shut-out : ShutOut
 shut-out = record {
   passing-heard = kept-judged;
-  long-accepted = long-accepted;
-  pair-accepted = pair-accepted;
-  delete-accepted = delete-accepted;
-  simplify-accepted = simplify-accepted;
+  each-accepted = each-accepted;
+  start-accepted = start-accepted;
   numbers-differ = numbers-differ;
   answers-differ = answers-differ;
   both-accepted = both-accepted;
