@@ -1,54 +1,97 @@
+use mathlib.Core.Path.{_≡_, refl, sym, ap, _∙_}
+use mathlib.Core.Bool.{true, false}
+use Prim.Native.Nat.{ℕ, _*_, _/_, _≤_, _<_}
+use lib.ListN.{length}
+use Rattle.kinds.specs.Lent.{lent, hostOf}
+use Rattle.calls.specs.Call.{everything}
+use Rattle.calls.proofs.Judged.{sizes-judged, vars-low, vars-high, clauses-sized}
+use Rattle.simplify_steps.proofs.Facts.{rows-ready, room-ready}
+use Rattle.simplify_steps.proofs.Refuse.{ends-at, vars-at, rows-at, nine-level, nine-trail, ten-long, ten-rows, none-lacks, number-is}
+use borrow.Author.Needs.{needs}
+use native.Mathlib.Omega.{arith}
 use Rattle.simplify_steps.proofs.refuse_unit_simplify.Statement.{statement}
 use Rattle.simplify_steps.proofs.refuse_unit_simplify.Tie as tie
-use Rattle.simplify_steps.proofs.refuse_unit_simplify.Reads as reads
-use Rattle.simplify_steps.proofs.refuse_unit_simplify.Lts as lts
-use Rattle.lacking.proofs.long_lacks.Reads as long-lacks-reads
-use Rattle.lacking.proofs.rows_lack.Reads as rows-lack-reads
-use Rattle.simplify_room.proofs.has_room.Reads as has-room-reads
 
--- src/lib.rt:68:9
+four-lengths : (c : tie.Start) → length (c .args .s .tiers) ≡ 4
+four-lengths c = search needs
+
 returns : tie.Need-returns
-returns c = ?
+returns c =
+    let a = c .before .before .before .before .before .before .before .before .before .before .before .before .before .before .before .args in
+    let j = c .before .before .before .before .before .before .before .before .before .before .before .before .before .before .before .pre in
+    let k = lent (a .s) (a .words .now) (a .clauses .now) (a .irred .now) (a .core .now) (a .mid .now) (a .local .now) (a .rows .now) (a .counts .now) (a .rec .now) (hostOf (a .values .now) (a .kinds .now) (a .reasons .now) (a .levels .now) (a .trail .now) (a .assigned) (a .level)) in
+    nine-level k j (c .if1 .taken)
 
--- src/lib.rt:71:9
 returns-2 : tie.Need-returns-2
-returns-2 c = ?
+returns-2 c =
+    let a = c .before .before .before .before .before .before .before .before .before .before .before .before .before .before .before .before .args in
+    let j = c .before .before .before .before .before .before .before .before .before .before .before .before .before .before .before .before .pre in
+    let k = lent (a .s) (a .words .now) (a .clauses .now) (a .irred .now) (a .core .now) (a .mid .now) (a .local .now) (a .rows .now) (a .counts .now) (a .rec .now) (hostOf (a .values .now) (a .kinds .now) (a .reasons .now) (a .levels .now) (a .trail .now) (a .assigned) (a .level)) in
+    nine-trail k j (c .if2 .taken)
 
--- src/lib.rt:73:8
 long-lacks-requires : tie.Need-long-lacks-requires
-long-lacks-requires c κs = ?
+long-lacks-requires c κs =
+    let a = c .before .before .before .before .before .before .before .before .before .before .before .before .before .before .before .before .args in
+    let j = c .before .before .before .before .before .before .before .before .before .before .before .before .before .before .before .before .pre in
+    let k = lent (a .s) (a .words .now) (a .clauses .now) (a .irred .now) (a .core .now) (a .mid .now) (a .local .now) (a .rows .now) (a .counts .now) (a .rec .now) (hostOf (a .values .now) (a .kinds .now) (a .reasons .now) (a .levels .now) (a .trail .now) (a .assigned) (a .level)) in
+    ((clauses-sized everything k (sizes-judged everything k j) refl .used, ends-at k j), vars-at k j)
 
--- src/lib.rt:74:9
 returns-3 : tie.Need-returns-3
-returns-3 c = ?
+returns-3 c =
+    let a = c .before .before .before .before .before .before .before .before .before .before .before .before .before .before .before .before .before .before .args in
+    let j = c .before .before .before .before .before .before .before .before .before .before .before .before .before .before .before .before .before .before .pre in
+    let k = lent (a .s) (a .words .now) (a .clauses .now) (a .irred .now) (a .core .now) (a .mid .now) (a .local .now) (a .rows .now) (a .counts .now) (a .rec .now) (hostOf (a .values .now) (a .kinds .now) (a .reasons .now) (a .levels .now) (a .trail .now) (a .assigned) (a .level)) in
+    ten-long k j (c .before .before .before .if1 .left) (c .before .before .if2 .left) (c .before .long-lacks .ensures) (c .if3 .taken)
 
--- src/lib.rt:76:30
 mul-room : tie.Need-mul-room
-mul-room c = ?
+mul-room c =
+    let a = c .before .before .before .before .before .before .before .before .before .before .before .before .before .before .before .before .before .before .before .args in
+    let j = c .before .before .before .before .before .before .before .before .before .before .before .before .before .before .before .before .before .before .before .pre in
+    let k = lent (a .s) (a .words .now) (a .clauses .now) (a .irred .now) (a .core .now) (a .mid .now) (a .local .now) (a .rows .now) (a .counts .now) (a .rec .now) (hostOf (a .values .now) (a .kinds .now) (a .reasons .now) (a .levels .now) (a .trail .now) (a .assigned) (a .level)) in
+    omega (arith, vars-high everything k (sizes-judged everything k j) refl)
 
--- src/lib.rt:76:16
 div-room : tie.Need-div-room
-div-room c = ?
+div-room c =
+    let a = c .before .before .before .before .before .before .before .before .before .before .before .before .before .before .before .before .before .before .before .args in
+    let j = c .before .before .before .before .before .before .before .before .before .before .before .before .before .before .before .before .before .before .before .pre in
+    let k = lent (a .s) (a .words .now) (a .clauses .now) (a .irred .now) (a .core .now) (a .mid .now) (a .local .now) (a .rows .now) (a .counts .now) (a .rec .now) (hostOf (a .values .now) (a .kinds .now) (a .reasons .now) (a .levels .now) (a .trail .now) (a .assigned) (a .level)) in
+    omega (arith, vars-low everything k (sizes-judged everything k j) refl)
 
--- src/lib.rt:77:8
 rows-lack-requires : tie.Need-rows-lack-requires
-rows-lack-requires c κs = ?
+rows-lack-requires c κs =
+    let a = c .before .before .before .before .before .before .before .before .before .before .before .before .before .before .before .before .before .before .before .args in
+    let j = c .before .before .before .before .before .before .before .before .before .before .before .before .before .before .before .before .before .before .before .pre in
+    let k = lent (a .s) (a .words .now) (a .clauses .now) (a .irred .now) (a .core .now) (a .mid .now) (a .local .now) (a .rows .now) (a .counts .now) (a .rec .now) (hostOf (a .values .now) (a .kinds .now) (a .reasons .now) (a .levels .now) (a .trail .now) (a .assigned) (a .level)) in
+    let R = rows-ready k j in
+    ((R .square, R .codes, R .few, R .counted), rows-at k j)
 
--- src/lib.rt:78:9
 returns-4 : tie.Need-returns-4
-returns-4 c = ?
+returns-4 c =
+    let a = c .before .before .before .before .before .before .before .before .before .before .before .before .before .before .before .before .before .before .before .before .before .args in
+    let j = c .before .before .before .before .before .before .before .before .before .before .before .before .before .before .before .before .before .before .before .before .before .pre in
+    let k = lent (a .s) (a .words .now) (a .clauses .now) (a .irred .now) (a .core .now) (a .mid .now) (a .local .now) (a .rows .now) (a .counts .now) (a .rec .now) (hostOf (a .values .now) (a .kinds .now) (a .reasons .now) (a .levels .now) (a .trail .now) (a .assigned) (a .level)) in
+    ten-rows k j (c .before .before .before .before .before .before .if1 .left) (c .before .before .before .before .before .if2 .left) (c .before .rows-lack .ensures) (c .if4 .taken)
 
--- src/lib.rt:80:8
 has-room-requires : tie.Need-has-room-requires
-has-room-requires c κs = ?
+has-room-requires c κs =
+    let a = c .before .before .before .before .before .before .before .before .before .before .before .before .before .before .before .before .before .before .before .before .before .args in
+    let j = c .before .before .before .before .before .before .before .before .before .before .before .before .before .before .before .before .before .before .before .before .before .pre in
+    let k = lent (a .s) (a .words .now) (a .clauses .now) (a .irred .now) (a .core .now) (a .mid .now) (a .local .now) (a .rows .now) (a .counts .now) (a .rec .now) (hostOf (a .values .now) (a .kinds .now) (a .reasons .now) (a .levels .now) (a .trail .now) (a .assigned) (a .level)) in
+    room-ready k j (none-lacks k j (c .before .before .before .before .before .before .if1 .left) (c .before .before .before .before .before .if2 .left) (c .before .before .before .before .long-lacks .ensures) (c .before .before .before .if3 .left) (c .before .rows-lack .ensures) (c .if4 .left))
 
--- src/lib.rt:81:9
 returns-5 : tie.Need-returns-5
-returns-5 c = ?
+returns-5 c =
+    let a = c .before .before .before .before .before .before .before .before .before .before .before .before .before .before .before .before .before .before .before .before .before .before .before .args in
+    let j = c .before .before .before .before .before .before .before .before .before .before .before .before .before .before .before .before .before .before .before .before .before .before .before .pre in
+    let k = lent (a .s) (a .words .now) (a .clauses .now) (a .irred .now) (a .core .now) (a .mid .now) (a .local .now) (a .rows .now) (a .counts .now) (a .rec .now) (hostOf (a .values .now) (a .kinds .now) (a .reasons .now) (a .levels .now) (a .trail .now) (a .assigned) (a .level)) in
+    number-is k j (c .before .before .before .before .before .before .before .before .if1 .left) (c .before .before .before .before .before .before .before .if2 .left) (c .before .before .before .before .before .before .long-lacks .ensures) (c .before .before .before .before .before .if3 .left) (c .before .before .before .rows-lack .ensures) (c .before .before .if4 .left) refl (four-lengths (c .before .before .before .before .before .before .before .before .before .before .before .before .before .before .before .before .before .before .before .before .before .before .before)) (c .before .has-room .ensures) true (c .if5 .taken)
 
--- src/lib.rt:45:1
 returns-6 : tie.Need-returns-6
-returns-6 c = ?
+returns-6 c =
+    let a = c .before .before .before .before .before .before .before .before .before .before .before .before .before .before .before .before .before .before .before .before .before .before .before .args in
+    let j = c .before .before .before .before .before .before .before .before .before .before .before .before .before .before .before .before .before .before .before .before .before .before .before .pre in
+    let k = lent (a .s) (a .words .now) (a .clauses .now) (a .irred .now) (a .core .now) (a .mid .now) (a .local .now) (a .rows .now) (a .counts .now) (a .rec .now) (hostOf (a .values .now) (a .kinds .now) (a .reasons .now) (a .levels .now) (a .trail .now) (a .assigned) (a .level)) in
+    number-is k j (c .before .before .before .before .before .before .before .before .if1 .left) (c .before .before .before .before .before .before .before .if2 .left) (c .before .before .before .before .before .before .long-lacks .ensures) (c .before .before .before .before .before .if3 .left) (c .before .before .before .rows-lack .ensures) (c .before .before .if4 .left) refl (four-lengths (c .before .before .before .before .before .before .before .before .before .before .before .before .before .before .before .before .before .before .before .before .before .before .before)) (c .before .has-room .ensures) false (c .if5 .left)
 
 pub refuse-unit-simplify-spec : {M : Type 1} → statement M
 refuse-unit-simplify-spec =
