@@ -59,7 +59,7 @@ pub fn implied_number(s: State, rows: &[u32], counts: &[u32], lit: Lit) -> Plain
 
 // ---- adding a binary clause
 
-// One more in the row of a code. The code is below 2V (4) and the counts have 2V entries (1).
+// Whether the row of a code has no room for one more. The code is below 2V (4) and the counts have 2V entries (1).
 fn row_full(counts: &[u32], room: usize, code: u32) -> bool
     requires { ⌜ code < length (now counts) ⌝ }
     ensures { λ r. ⌜ r ≡ leb room (at (now (counts .entry)) code) ⌝ }
