@@ -86,7 +86,7 @@ module _ {k : Lent} {s : Held} {to : ℕ} {words list rows counts rec : List ℕ
   }
 
 -- ---- rows that grow
-growing-of : (xs ys : List (List ℕ)) → length xs ≡ length ys → ((c : ℕ) → length (listAt xs c) ≤ length (listAt ys c)) → Growing xs ys
+pub growing-of : (xs ys : List (List ℕ)) → length xs ≡ length ys → ((c : ℕ) → length (listAt xs c) ≤ length (listAt ys c)) → Growing xs ys
 growing-of [] ys e f = tt
 growing-of (x ∷ xs) [] e f = absurd (omega arith)
 growing-of (x ∷ xs) (y ∷ ys) e f = (f 0, growing-of xs ys (omega arith) (λ c. f (suc c)))

@@ -1,9 +1,13 @@
 -- What simplifying leaves as it was: the tier lists and the host's side. So the parts that it is about can be told alone. Assumes nothing.
 use mathlib.Core.Path.{_≡_, refl, sym, ap, _∙_, subst}
+use mathlib.Core.Bool.{Bool, true}
 use mathlib.Core.List.{List, [], _∷_}
-use Prim.Native.Nat.{ℕ, _≤_}
+use Prim.Native.Nat.{ℕ, zero, suc, _≤_, _<_}
+use native.Mathlib.Omega.{arith}
 use lib.ListN.{length}
+use Rattle.laws.specs.Fold.{allBelow}
 use Rattle.laws.specs.Lists.{listAt, takeEach}
+use Rattle.laws.proofs.Folds.{and-both}
 use Rattle.kinds.specs.Lent.{Lent}
 use Rattle.kinds.specs.Held.{Held, Side}
 use Rattle.kinds.specs.Layout.{view, side}
@@ -12,6 +16,12 @@ use Rattle.simplify_lines.specs.Walk.{longsDone, valuesOnly}
 use Rattle.simplify_lines.proofs.Done.{Grows, state-last, state-zero}
 use Rattle.simplify_steps.proofs.Recast.{recast, simplified-recast, simplified-long}
 use Rattle.simplify_steps.proofs.Facts.{walkOf}
+
+-- a test that holds of every index
+pub all-yes : (f : ℕ → Bool) (n : ℕ) → ((c : ℕ) → c < n → f c ≡ true) → allBelow f n ≡ true
+unfolding allBelow
+all-yes f zero h = refl
+all-yes f (suc n) h = and-both (allBelow f n) (f n) (all-yes f n (λ c l. h c (omega arith))) (h n (omega arith))
 
 -- the walk from what is held only adds to record and rows
 pub long-grows : (h : Held) → Grows h (longsDone h)

@@ -28,12 +28,7 @@ use Rattle.calls.proofs.Judged.{sizes-judged, store-judged, words-sized, clause
 use Rattle.lacking.specs.Lacks.{longLacks, pairLacks, rowLacks}
 use Rattle.simplify_lines.specs.Walk.{walkParts}
 use Rattle.simplify_steps.proofs.Facts.{walkOf}
-use Rattle.simplify_steps.proofs.Parts.{done-walk, tiers-then}
-
-all-yes : (f : ℕ → Bool) (n : ℕ) → ((c : ℕ) → c < n → f c ≡ true) → allBelow f n ≡ true
-unfolding allBelow
-all-yes f zero h = refl
-all-yes f (suc n) h = and-both (allBelow f n) (f n) (all-yes f n (λ c l. h c (omega arith))) (h n (omega arith))
+use Rattle.simplify_steps.proofs.Parts.{all-yes, done-walk, tiers-then}
 
 module _ (k : Lent) (j : judged everything k ≡ 0) where
   entries : length (take (k .state .clauses) (k .clauses)) ≡ k .state .clauses

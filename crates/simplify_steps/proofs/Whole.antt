@@ -32,26 +32,17 @@ use Rattle.calls.proofs.Judged.{sizes-judged, vars-low, vars-high, words-sized,
 use Rattle.simplify_lines.specs.Walk.{Walkable, walkParts, lentWalk, longsDone, valuesOnly}
 use Rattle.simplify_lines.proofs.Done.{Grows, state-last, state-zero, state-first, stateAt}
 use Rattle.simplify_long.specs.Ready.{LongReady}
+use Rattle.simplify_long.proofs.Laid.{growing-of}
 use Rattle.simplify_room.proofs.Room.{cleaned-many, cleaned-rows}
 use Rattle.simplify_steps.proofs.Recast.{recast, simplified-long}
-use Rattle.simplify_steps.proofs.Parts.{long-grows, done-walk, tiers-then, host-then}
+use Rattle.simplify_steps.proofs.Parts.{all-yes, long-grows, done-walk, tiers-then, host-then}
 use Rattle.simplify_steps.proofs.Facts.{walkOf, square, within, rows-ready, walk-ready}
-
-all-yes : (f : ℕ → Bool) (n : ℕ) → ((c : ℕ) → c < n → f c ≡ true) → allBelow f n ≡ true
-unfolding allBelow
-all-yes f zero h = refl
-all-yes f (suc n) h = and-both (allBelow f n) (f n) (all-yes f n (λ c l. h c (omega arith))) (h n (omega arith))
 
 -- all entries of rows that fit
 joined-few : (m : ℕ) (rows : List (List ℕ)) → AllFit m rows → length (joined rows) ≤ length rows * m
 unfolding joined
 joined-few m [] f = omega arith
 joined-few m (r ∷ rows) (h, f) = omega (arith, length-append r (joined rows), joined-few m rows f, suc-mul (length rows) m, h)
-
-growing-of : (xs ys : List (List ℕ)) → length xs ≡ length ys → ((c : ℕ) → length (listAt xs c) ≤ length (listAt ys c)) → Growing xs ys
-growing-of [] ys e f = tt
-growing-of (x ∷ xs) [] e f = absurd (omega arith)
-growing-of (x ∷ xs) (y ∷ ys) e f = (f 0, growing-of xs ys (omega arith) (λ c. f (suc c)))
 
 module _ (k : Lent) (j : judged everything k ≡ 0) (o : ownNumber unitSimplify k ≡ 0) where
   abbrev m : ℕ
