@@ -26,7 +26,7 @@ judge-five-record-host-requires : tie.Need-judge-five-record-host-requires
 judge-five-record-host-requires c κs = search needs
 
 refusal-of-requires : tie.Need-refusal-of-requires
-refusal-of-requires c κs = 
+refusal-of-requires c κs =
     let s = c .before .before .before .before .before .before .before .before .before .before .before .before .before .before .before .before .before .before .before .before .before .before .before in
     let a = s .args in
     let j = c .before .before .before .judge-five-record-host in
@@ -54,21 +54,21 @@ same-length-7 : tie.Need-same-length-7
 same-length-7 c = search needs
 
 returns : tie.Need-returns
-returns c = 
+returns c =
     let s = c .before .before .before .before .before .before .before .before .before .before .before .before .before .before .before .before .before .before .before .before .before .before .before .before in
     let a = s .args in
     let j = c .before .before .before .before .judge-five-record-host in
     (ap (λ (w : List ℕ). refused (refusalNumber (c .refusal-of .result)) (lent (a .s) w (a .clauses .now) (a .irred .now) (a .core .now) (a .mid .now) (a .local .now) [] [] (a .rec .now) (hostOf (a .values .now) (a .kinds .now) (a .reasons .now) (a .levels .now) (a .trail .now) (a .assigned) (a .level)))) (j .ensures .1)) ∙ judge-told reduceLocals fiveListsRecordHost lends (lent (a .s) (a .words .now) (a .clauses .now) (a .irred .now) (a .core .now) (a .mid .now) (a .local .now) [] [] (a .rec .now) (hostOf (a .values .now) (a .kinds .now) (a .reasons .now) (a .levels .now) (a .trail .now) (a .assigned) (a .level))) (j .result) (j .ensures .0) (c .before .if1 .taken) (c .refusal-of .result) (c .refusal-of .ensures)
 
 refuse-reduce-locals-requires : tie.Need-refuse-reduce-locals-requires
-refuse-reduce-locals-requires c κs = 
+refuse-reduce-locals-requires c κs =
     let s = c .before .before .before .before .before .before .before .before .before .before .before .before .before .before .before .before .before .before .before .before .before .before .before .before .before .before .before .before .before .before in
     let a = s .args in
     let j = c .before .before .before .before .before .before .before .before .before .before .judge-five-record-host in
     subst (λ (w : List ℕ). judged fiveListsRecordHost (lent (a .s) w (a .clauses .now) (a .irred .now) (a .core .now) (a .mid .now) (a .local .now) [] [] (a .rec .now) (hostOf (a .values .now) (a .kinds .now) (a .reasons .now) (a .levels .now) (a .trail .now) (a .assigned) (a .level))) ≡ 0) (sym (j .ensures .1)) (sym (j .ensures .0) ∙ c .before .before .before .before .before .before .before .if1 .left)
 
 refusal-of-requires-2 : tie.Need-refusal-of-requires-2
-refusal-of-requires-2 c κs = 
+refusal-of-requires-2 c κs =
     let s = c .before .before .before .before .before .before .before .before .before .before .before .before .before .before .before .before .before .before .before .before .before .before .before .before .before .before .before .before .before .before .before .before in
     let a = s .args in
     let j = c .before .before .before .before .before .before .before .before .before .before .before .before .judge-five-record-host in
@@ -96,19 +96,20 @@ same-length-14 : tie.Need-same-length-14
 same-length-14 c = search needs
 
 returns-2 : tie.Need-returns-2
-returns-2 c = 
+returns-2 c =
     let s = c .before .before .before .before .before .before .before .before .before .before .before .before .before .before .before .before .before .before .before .before .before .before .before .before .before .before .before .before .before .before .before .before .before in
     let a = s .args in
     let j = c .before .before .before .before .before .before .before .before .before .before .before .before .before .judge-five-record-host in
     (ap (λ (w : List ℕ). refused (refusalNumber (c .refusal-of2 .result)) (lent (a .s) w (a .clauses .now) (a .irred .now) (a .core .now) (a .mid .now) (a .local .now) [] [] (a .rec .now) (hostOf (a .values .now) (a .kinds .now) (a .reasons .now) (a .levels .now) (a .trail .now) (a .assigned) (a .level)))) (j .ensures .1)) ∙ own-told reduceLocals locals fiveListsRecordHost lends (lent (a .s) (a .words .now) (a .clauses .now) (a .irred .now) (a .core .now) (a .mid .now) (a .local .now) [] [] (a .rec .now) (hostOf (a .values .now) (a .kinds .now) (a .reasons .now) (a .levels .now) (a .trail .now) (a .assigned) (a .level))) (sym (j .ensures .0) ∙ c .before .before .before .before .before .before .before .before .before .before .if1 .left) (c .before .before .refuse-reduce-locals .result) (c .before .before .refuse-reduce-locals .ensures ∙ ap (λ (w : List ℕ). ownNumber reduceLocals (lent (a .s) w (a .clauses .now) (a .irred .now) (a .core .now) (a .mid .now) (a .local .now) [] [] (a .rec .now) (hostOf (a .values .now) (a .kinds .now) (a .reasons .now) (a .levels .now) (a .trail .now) (a .assigned) (a .level)))) (j .ensures .1)) (c .before .if2 .taken) (c .refusal-of2 .result) (c .refusal-of2 .ensures)
 
 locals-requires : tie.Need-locals-requires
-locals-requires c κs = 
+locals-requires c κs =
     let s = c .before .before .before .before .before .before .before .before .before .before .before .before .before .before .before .before .before .before .before .before .before .before .before .before .before .before .before .before .before .before .before .before .before .before .before .before .before .before .before in
     let a = s .args in
-    let j = c .before .before .before .before .before .before .before .before .before .before .before .before .before .before .before .before .before .before .before .judge-five-record-host in
-    (subst (λ (w : List ℕ). judged fiveListsRecordHost (lent (a .s) w (a .clauses .now) (a .irred .now) (a .core .now) (a .mid .now) (a .local .now) [] [] (a .rec .now) (hostOf (a .values .now) (a .kinds .now) (a .reasons .now) (a .levels .now) (a .trail .now) (a .assigned) (a .level))) ≡ 0) (sym (j .ensures .1)) (sym (j .ensures .0) ∙ c .before .before .before .before .before .before .before .before .before .before .before .before .before .before .before .before .if1 .left),
-    subst (λ (w : List ℕ). ownNumber reduceLocals (lent (a .s) w (a .clauses .now) (a .irred .now) (a .core .now) (a .mid .now) (a .local .now) [] [] (a .rec .now) (hostOf (a .values .now) (a .kinds .now) (a .reasons .now) (a .levels .now) (a .trail .now) (a .assigned) (a .level))) ≡ 0) (sym (j .ensures .1)) (sym (c .before .before .before .before .before .before .before .before .refuse-reduce-locals .ensures ∙ ap (λ (w : List ℕ). ownNumber reduceLocals (lent (a .s) w (a .clauses .now) (a .irred .now) (a .core .now) (a .mid .now) (a .local .now) [] [] (a .rec .now) (hostOf (a .values .now) (a .kinds .now) (a .reasons .now) (a .levels .now) (a .trail .now) (a .assigned) (a .level)))) (j .ensures .1)) ∙ c .before .before .before .before .before .before .before .if2 .left))
+    let j = c .before .before .before .before .before .before .before .before .before .before .before .before .before .before .before .before .before .before .before .judge-five-record-host in (
+      subst (λ (w : List ℕ). judged fiveListsRecordHost (lent (a .s) w (a .clauses .now) (a .irred .now) (a .core .now) (a .mid .now) (a .local .now) [] [] (a .rec .now) (hostOf (a .values .now) (a .kinds .now) (a .reasons .now) (a .levels .now) (a .trail .now) (a .assigned) (a .level))) ≡ 0) (sym (j .ensures .1)) (sym (j .ensures .0) ∙ c .before .before .before .before .before .before .before .before .before .before .before .before .before .before .before .before .if1 .left),
+      subst (λ (w : List ℕ). ownNumber reduceLocals (lent (a .s) w (a .clauses .now) (a .irred .now) (a .core .now) (a .mid .now) (a .local .now) [] [] (a .rec .now) (hostOf (a .values .now) (a .kinds .now) (a .reasons .now) (a .levels .now) (a .trail .now) (a .assigned) (a .level))) ≡ 0) (sym (j .ensures .1)) (sym (c .before .before .before .before .before .before .before .before .refuse-reduce-locals .ensures ∙ ap (λ (w : List ℕ). ownNumber reduceLocals (lent (a .s) w (a .clauses .now) (a .irred .now) (a .core .now) (a .mid .now) (a .local .now) [] [] (a .rec .now) (hostOf (a .values .now) (a .kinds .now) (a .reasons .now) (a .levels .now) (a .trail .now) (a .assigned) (a .level)))) (j .ensures .1)) ∙ c .before .before .before .before .before .before .before .if2 .left),
+    )
 
 same-length-15 : tie.Need-same-length-15
 same-length-15 c = c .before .before .before .before .before .before .before .before .before .before .before .before .before .before .before .before .locals .kept .1 .0 ∙ c .before .before .before .before .before .before .before .before .before .before .before .before .before .before .before .before .before .before .before .before .before .before .before .before .before .before .before .before .before .before .before .before .before .before .before .before .judge-five-record-host .kept .1 .0
@@ -133,7 +134,7 @@ same-length-21 c = search needs
 
 returns-3 : tie.Need-returns-3
 unfolding step
-returns-3 c = 
+returns-3 c =
     let s = c .before .before .before .before .before .before .before .before .before .before .before .before .before .before .before .before .before .before .before .before .before .before .before .before .before .before .before .before .before .before .before .before .before .before .before .before .before .before .before .before .before .before .before .before .before .before .before .before .before .before .before .before .before .before .before .before in
     let a = s .args in
     let j = c .before .before .before .before .before .before .before .before .before .before .before .before .before .before .before .before .before .before .before .before .before .before .before .before .before .before .before .before .before .before .before .before .before .before .before .before .judge-five-record-host in
@@ -162,7 +163,7 @@ same-length-28 c = search needs
 
 returns-4 : tie.Need-returns-4
 unfolding step
-returns-4 c = 
+returns-4 c =
     let s = c .before .before .before .before .before .before .before .before .before .before .before .before .before .before .before .before .before .before .before .before .before .before .before .before .before .before .before .before .before .before .before .before .before .before .before .before .before .before .before .before .before .before .before .before .before .before .before .before .before .before .before .before .before .before .before .before in
     let a = s .args in
     let j = c .before .before .before .before .before .before .before .before .before .before .before .before .before .before .before .before .before .before .before .before .before .before .before .before .before .before .before .before .before .before .before .before .before .before .before .before .judge-five-record-host in

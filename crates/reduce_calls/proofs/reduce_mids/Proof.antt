@@ -26,7 +26,7 @@ judge-five-requires : tie.Need-judge-five-requires
 judge-five-requires c κs = search needs
 
 refusal-of-requires : tie.Need-refusal-of-requires
-refusal-of-requires c κs = 
+refusal-of-requires c κs =
     let s = c .before .before .before .before .before .before .before .before .before .before .before .before .before .before .before .before in
     let a = s .args in
     let j = c .before .before .before .judge-five in
@@ -51,21 +51,21 @@ same-length-6 : tie.Need-same-length-6
 same-length-6 c = search needs
 
 returns : tie.Need-returns
-returns c = 
+returns c =
     let s = c .before .before .before .before .before .before .before .before .before .before .before .before .before .before .before .before .before in
     let a = s .args in
     let j = c .before .before .before .before .judge-five in
     (ap (λ (w : List ℕ). refused (refusalNumber (c .refusal-of .result)) (lentFive (a .s) w (a .clauses .now) (a .irred .now) (a .core .now) (a .mid .now) (a .local .now) noHost)) (j .ensures .1)) ∙ judge-told reduceMids fiveLists lends (lentFive (a .s) (a .words .now) (a .clauses .now) (a .irred .now) (a .core .now) (a .mid .now) (a .local .now) noHost) (j .result) (j .ensures .0) (c .before .if1 .taken) (c .refusal-of .result) (c .refusal-of .ensures)
 
 refuse-reduce-mids-requires : tie.Need-refuse-reduce-mids-requires
-refuse-reduce-mids-requires c κs = 
+refuse-reduce-mids-requires c κs =
     let s = c .before .before .before .before .before .before .before .before .before .before .before .before .before .before .before .before .before .before .before .before .before .before in
     let a = s .args in
     let j = c .before .before .before .before .before .before .before .before .before .judge-five in
     subst (λ (w : List ℕ). judged fiveLists (lentFive (a .s) w (a .clauses .now) (a .irred .now) (a .core .now) (a .mid .now) (a .local .now) noHost) ≡ 0) (sym (j .ensures .1)) (sym (j .ensures .0) ∙ c .before .before .before .before .before .before .if1 .left)
 
 refusal-of-requires-2 : tie.Need-refusal-of-requires-2
-refusal-of-requires-2 c κs = 
+refusal-of-requires-2 c κs =
     let s = c .before .before .before .before .before .before .before .before .before .before .before .before .before .before .before .before .before .before .before .before .before .before .before .before in
     let a = s .args in
     let j = c .before .before .before .before .before .before .before .before .before .before .before .judge-five in
@@ -90,19 +90,20 @@ same-length-12 : tie.Need-same-length-12
 same-length-12 c = search needs
 
 returns-2 : tie.Need-returns-2
-returns-2 c = 
+returns-2 c =
     let s = c .before .before .before .before .before .before .before .before .before .before .before .before .before .before .before .before .before .before .before .before .before .before .before .before .before in
     let a = s .args in
     let j = c .before .before .before .before .before .before .before .before .before .before .before .before .judge-five in
     (ap (λ (w : List ℕ). refused (refusalNumber (c .refusal-of2 .result)) (lentFive (a .s) w (a .clauses .now) (a .irred .now) (a .core .now) (a .mid .now) (a .local .now) noHost)) (j .ensures .1)) ∙ own-told reduceMids mids fiveLists lends (lentFive (a .s) (a .words .now) (a .clauses .now) (a .irred .now) (a .core .now) (a .mid .now) (a .local .now) noHost) (sym (j .ensures .0) ∙ c .before .before .before .before .before .before .before .before .before .if1 .left) (c .before .before .refuse-reduce-mids .result) (c .before .before .refuse-reduce-mids .ensures ∙ ap (λ (w : List ℕ). ownNumber reduceMids (lentFive (a .s) w (a .clauses .now) (a .irred .now) (a .core .now) (a .mid .now) (a .local .now) noHost)) (j .ensures .1)) (c .before .if2 .taken) (c .refusal-of2 .result) (c .refusal-of2 .ensures)
 
 mids-requires : tie.Need-mids-requires
-mids-requires c κs = 
+mids-requires c κs =
     let s = c .before .before .before .before .before .before .before .before .before .before .before .before .before .before .before .before .before .before .before .before .before .before .before .before .before .before .before .before .before .before in
     let a = s .args in
-    let j = c .before .before .before .before .before .before .before .before .before .before .before .before .before .before .before .before .before .judge-five in
-    (subst (λ (w : List ℕ). judged fiveLists (lentFive (a .s) w (a .clauses .now) (a .irred .now) (a .core .now) (a .mid .now) (a .local .now) noHost) ≡ 0) (sym (j .ensures .1)) (sym (j .ensures .0) ∙ c .before .before .before .before .before .before .before .before .before .before .before .before .before .before .if1 .left),
-    subst (λ (w : List ℕ). ownNumber reduceMids (lentFive (a .s) w (a .clauses .now) (a .irred .now) (a .core .now) (a .mid .now) (a .local .now) noHost) ≡ 0) (sym (j .ensures .1)) (sym (c .before .before .before .before .before .before .before .refuse-reduce-mids .ensures ∙ ap (λ (w : List ℕ). ownNumber reduceMids (lentFive (a .s) w (a .clauses .now) (a .irred .now) (a .core .now) (a .mid .now) (a .local .now) noHost)) (j .ensures .1)) ∙ c .before .before .before .before .before .before .if2 .left))
+    let j = c .before .before .before .before .before .before .before .before .before .before .before .before .before .before .before .before .before .judge-five in (
+      subst (λ (w : List ℕ). judged fiveLists (lentFive (a .s) w (a .clauses .now) (a .irred .now) (a .core .now) (a .mid .now) (a .local .now) noHost) ≡ 0) (sym (j .ensures .1)) (sym (j .ensures .0) ∙ c .before .before .before .before .before .before .before .before .before .before .before .before .before .before .if1 .left),
+      subst (λ (w : List ℕ). ownNumber reduceMids (lentFive (a .s) w (a .clauses .now) (a .irred .now) (a .core .now) (a .mid .now) (a .local .now) noHost) ≡ 0) (sym (j .ensures .1)) (sym (c .before .before .before .before .before .before .before .refuse-reduce-mids .ensures ∙ ap (λ (w : List ℕ). ownNumber reduceMids (lentFive (a .s) w (a .clauses .now) (a .irred .now) (a .core .now) (a .mid .now) (a .local .now) noHost)) (j .ensures .1)) ∙ c .before .before .before .before .before .before .if2 .left),
+    )
 
 same-length-13 : tie.Need-same-length-13
 same-length-13 c = c .before .before .before .before .before .before .before .before .before .before .before .before .mids .kept .1 .0 ∙ c .before .before .before .before .before .before .before .before .before .before .before .before .before .before .before .before .before .before .before .before .before .before .before .before .before .before .before .before .before .before .judge-five .kept .1 .0
@@ -124,7 +125,7 @@ same-length-18 c = search needs
 
 returns-3 : tie.Need-returns-3
 unfolding step
-returns-3 c = 
+returns-3 c =
     let s = c .before .before .before .before .before .before .before .before .before .before .before .before .before .before .before .before .before .before .before .before .before .before .before .before .before .before .before .before .before .before .before .before .before .before .before .before .before .before .before .before .before .before .before in
     let a = s .args in
     let j = c .before .before .before .before .before .before .before .before .before .before .before .before .before .before .before .before .before .before .before .before .before .before .before .before .before .before .before .before .before .before .judge-five in
