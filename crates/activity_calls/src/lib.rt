@@ -1,6 +1,5 @@
 // Activity: activity.rs, and assess.rs where a clause is bumped. Each call judges what it is lent, then looks for its own refusal, then takes its step.
 ghost use mathlib.Core.Path.{_≡_};
-ghost use Prim.Native.Nat.{ℕ};
 ghost use Rattle.kinds.specs.Lent.{lentFive, levelsOnly, noHost};
 ghost use Rattle.calls.specs.Call.{bump, decay};
 ghost use Rattle.calls.specs.Outcome.{done, nothing};
@@ -49,10 +48,10 @@ pub fn bump_clause(
             state: s,
         };
     }
-    let state = activity_steps::bump(s, words, clauses, irred, core, mid, local, levels, cref);
+    let bumped = activity_steps::bump(s, words, clauses, irred, core, mid, local, levels, cref);
     PlainReply {
         answer: Plain::Done,
-        state: state,
+        state: bumped,
     }
 }
 
@@ -76,9 +75,9 @@ pub fn decay(
             state: s,
         };
     }
-    let state = activity_steps::decay(s, words, clauses, irred, core, mid, local);
+    let decayed = activity_steps::decay(s, words, clauses, irred, core, mid, local);
     PlainReply {
         answer: Plain::Done,
-        state: state,
+        state: decayed,
     }
 }
