@@ -177,7 +177,7 @@ pub fn unit_simplify(
             state: s,
         };
     }
-    let state = simplify_steps::simplify(
+    let simplified = simplify_steps::simplify(
         s,
         words,
         clauses,
@@ -198,6 +198,6 @@ pub fn unit_simplify(
     );
     ChangedReply {
         answer: Changed::Rebuild,
-        state: state,
+        state: simplified,
     }
 }
