@@ -33,25 +33,25 @@ refusal-of-requires c κs =
     judge-number reduceLocals fiveListsRecordHost lends (lent (a .s) (a .words .now) (a .clauses .now) (a .irred .now) (a .core .now) (a .mid .now) (a .local .now) [] [] (a .rec .now) (hostOf (a .values .now) (a .kinds .now) (a .reasons .now) (a .levels .now) (a .trail .now) (a .assigned) (a .level))) (j .result) (j .ensures .0) (c .if1 .taken)
 
 same-length : tie.Need-same-length
-same-length c = search needs
+same-length c = c .before .before .before .before .judge-five-record-host .kept .1 .0
 
 same-length-2 : tie.Need-same-length-2
-same-length-2 c = search needs
+same-length-2 c = refl
 
 same-length-3 : tie.Need-same-length-3
-same-length-3 c = search needs
+same-length-3 c = refl
 
 same-length-4 : tie.Need-same-length-4
-same-length-4 c = search needs
+same-length-4 c = refl
 
 same-length-5 : tie.Need-same-length-5
-same-length-5 c = search needs
+same-length-5 c = refl
 
 same-length-6 : tie.Need-same-length-6
-same-length-6 c = search needs
+same-length-6 c = refl
 
 same-length-7 : tie.Need-same-length-7
-same-length-7 c = search needs
+same-length-7 c = refl
 
 returns : tie.Need-returns
 returns c =
@@ -75,25 +75,25 @@ refusal-of-requires-2 c κs =
     own-number reduceLocals locals fiveListsRecordHost lends (lent (a .s) (a .words .now) (a .clauses .now) (a .irred .now) (a .core .now) (a .mid .now) (a .local .now) [] [] (a .rec .now) (hostOf (a .values .now) (a .kinds .now) (a .reasons .now) (a .levels .now) (a .trail .now) (a .assigned) (a .level))) (c .before .refuse-reduce-locals .result) (c .before .refuse-reduce-locals .ensures ∙ ap (λ (w : List ℕ). ownNumber reduceLocals (lent (a .s) w (a .clauses .now) (a .irred .now) (a .core .now) (a .mid .now) (a .local .now) [] [] (a .rec .now) (hostOf (a .values .now) (a .kinds .now) (a .reasons .now) (a .levels .now) (a .trail .now) (a .assigned) (a .level)))) (j .ensures .1)) (c .if2 .taken)
 
 same-length-8 : tie.Need-same-length-8
-same-length-8 c = search needs
+same-length-8 c = c .before .before .before .before .before .before .before .before .before .before .before .before .before .judge-five-record-host .kept .1 .0
 
 same-length-9 : tie.Need-same-length-9
-same-length-9 c = search needs
+same-length-9 c = refl
 
 same-length-10 : tie.Need-same-length-10
-same-length-10 c = search needs
+same-length-10 c = refl
 
 same-length-11 : tie.Need-same-length-11
-same-length-11 c = search needs
+same-length-11 c = refl
 
 same-length-12 : tie.Need-same-length-12
-same-length-12 c = search needs
+same-length-12 c = refl
 
 same-length-13 : tie.Need-same-length-13
-same-length-13 c = search needs
+same-length-13 c = refl
 
 same-length-14 : tie.Need-same-length-14
-same-length-14 c = search needs
+same-length-14 c = refl
 
 returns-2 : tie.Need-returns-2
 returns-2 c =
@@ -115,22 +115,22 @@ same-length-15 : tie.Need-same-length-15
 same-length-15 c = c .before .before .before .before .before .before .before .before .before .before .before .before .before .before .before .before .locals .kept .1 .0 ∙ c .before .before .before .before .before .before .before .before .before .before .before .before .before .before .before .before .before .before .before .before .before .before .before .before .before .before .before .before .before .before .before .before .before .before .before .before .judge-five-record-host .kept .1 .0
 
 same-length-16 : tie.Need-same-length-16
-same-length-16 c = search needs
+same-length-16 c = c .before .before .before .before .before .before .before .before .before .before .before .before .before .before .before .before .locals .kept .1 .1 .0
 
 same-length-17 : tie.Need-same-length-17
-same-length-17 c = search needs
+same-length-17 c = c .before .before .before .before .before .before .before .before .before .before .before .before .before .before .before .before .locals .kept .1 .1 .1 .0
 
 same-length-18 : tie.Need-same-length-18
-same-length-18 c = search needs
+same-length-18 c = c .before .before .before .before .before .before .before .before .before .before .before .before .before .before .before .before .locals .kept .1 .1 .1 .1 .0
 
 same-length-19 : tie.Need-same-length-19
-same-length-19 c = search needs
+same-length-19 c = c .before .before .before .before .before .before .before .before .before .before .before .before .before .before .before .before .locals .kept .1 .1 .1 .1 .1 .0
 
 same-length-20 : tie.Need-same-length-20
-same-length-20 c = search needs
+same-length-20 c = c .before .before .before .before .before .before .before .before .before .before .before .before .before .before .before .before .locals .kept .1 .1 .1 .1 .1 .1 .0
 
 same-length-21 : tie.Need-same-length-21
-same-length-21 c = search needs
+same-length-21 c = c .before .before .before .before .before .before .before .before .before .before .before .before .before .before .before .before .locals .kept .1 .1 .1 .1 .1 .1 .1 .0
 
 returns-3 : tie.Need-returns-3
 unfolding step
@@ -144,22 +144,22 @@ same-length-22 : tie.Need-same-length-22
 same-length-22 c = c .before .before .before .before .before .before .before .before .before .before .before .before .before .before .before .before .locals .kept .1 .0 ∙ c .before .before .before .before .before .before .before .before .before .before .before .before .before .before .before .before .before .before .before .before .before .before .before .before .before .before .before .before .before .before .before .before .before .before .before .before .judge-five-record-host .kept .1 .0
 
 same-length-23 : tie.Need-same-length-23
-same-length-23 c = search needs
+same-length-23 c = c .before .before .before .before .before .before .before .before .before .before .before .before .before .before .before .before .locals .kept .1 .1 .0
 
 same-length-24 : tie.Need-same-length-24
-same-length-24 c = search needs
+same-length-24 c = c .before .before .before .before .before .before .before .before .before .before .before .before .before .before .before .before .locals .kept .1 .1 .1 .0
 
 same-length-25 : tie.Need-same-length-25
-same-length-25 c = search needs
+same-length-25 c = c .before .before .before .before .before .before .before .before .before .before .before .before .before .before .before .before .locals .kept .1 .1 .1 .1 .0
 
 same-length-26 : tie.Need-same-length-26
-same-length-26 c = search needs
+same-length-26 c = c .before .before .before .before .before .before .before .before .before .before .before .before .before .before .before .before .locals .kept .1 .1 .1 .1 .1 .0
 
 same-length-27 : tie.Need-same-length-27
-same-length-27 c = search needs
+same-length-27 c = c .before .before .before .before .before .before .before .before .before .before .before .before .before .before .before .before .locals .kept .1 .1 .1 .1 .1 .1 .0
 
 same-length-28 : tie.Need-same-length-28
-same-length-28 c = search needs
+same-length-28 c = c .before .before .before .before .before .before .before .before .before .before .before .before .before .before .before .before .locals .kept .1 .1 .1 .1 .1 .1 .1 .0
 
 returns-4 : tie.Need-returns-4
 unfolding step
