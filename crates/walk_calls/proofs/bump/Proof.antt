@@ -1,0 +1,129 @@
+use Rattle.walk_calls.proofs.Parts.{cut}
+use borrow.Author.Needs.{needs}
+use Rattle.walk_calls.proofs.bump.Statement.{statement}
+use Rattle.walk_calls.proofs.bump.Tie as tie
+
+lent-vars-requires : tie.Need-lent-vars-requires
+lent-vars-requires c κs = search needs
+
+least-requires : tie.Need-least-requires
+least-requires c κs = search needs
+
+least-requires-2 : tie.Need-least-requires-2
+least-requires-2 c κs = search needs
+
+least-requires-3 : tie.Need-least-requires-3
+least-requires-3 c κs = search needs
+
+least-requires-4 : tie.Need-least-requires-4
+least-requires-4 c κs = search needs
+
+least-requires-5 : tie.Need-least-requires-5
+least-requires-5 c κs = search needs
+
+least-requires-6 : tie.Need-least-requires-6
+least-requires-6 c κs = search needs
+
+least-requires-7 : tie.Need-least-requires-7
+least-requires-7 c κs = search needs
+
+slice-relend-prefix-bump-clause : tie.Need-slice-relend-prefix-bump-clause
+slice-relend-prefix-bump-clause c = search needs
+
+slice-aggregate-bump-clause : tie.Need-slice-aggregate-bump-clause
+slice-aggregate-bump-clause c = cut _ _ (c .before .before .before .before .before .before .before .least .ensures .0 .1)
+
+slice-relend-prefix-bump-clause-2 : tie.Need-slice-relend-prefix-bump-clause-2
+slice-relend-prefix-bump-clause-2 c = search needs
+
+slice-aggregate-bump-clause-2 : tie.Need-slice-aggregate-bump-clause-2
+slice-aggregate-bump-clause-2 c = cut _ _ (c .before .before .before .before .before .before .before .least2 .ensures .0 .1)
+
+slice-relend-prefix-bump-clause-3 : tie.Need-slice-relend-prefix-bump-clause-3
+slice-relend-prefix-bump-clause-3 c = search needs
+
+slice-aggregate-bump-clause-3 : tie.Need-slice-aggregate-bump-clause-3
+slice-aggregate-bump-clause-3 c = cut _ _ (c .before .before .before .before .before .before .before .least3 .ensures .0 .1)
+
+slice-relend-prefix-bump-clause-4 : tie.Need-slice-relend-prefix-bump-clause-4
+slice-relend-prefix-bump-clause-4 c = search needs
+
+slice-aggregate-bump-clause-4 : tie.Need-slice-aggregate-bump-clause-4
+slice-aggregate-bump-clause-4 c = cut _ _ (c .before .before .before .before .before .before .before .least4 .ensures .0 .1)
+
+slice-relend-prefix-bump-clause-5 : tie.Need-slice-relend-prefix-bump-clause-5
+slice-relend-prefix-bump-clause-5 c = search needs
+
+slice-aggregate-bump-clause-5 : tie.Need-slice-aggregate-bump-clause-5
+slice-aggregate-bump-clause-5 c = cut _ _ (c .before .before .before .before .before .before .before .least5 .ensures .0 .1)
+
+slice-relend-prefix-bump-clause-6 : tie.Need-slice-relend-prefix-bump-clause-6
+slice-relend-prefix-bump-clause-6 c = search needs
+
+slice-aggregate-bump-clause-6 : tie.Need-slice-aggregate-bump-clause-6
+slice-aggregate-bump-clause-6 c = cut _ _ (c .before .before .before .before .before .before .before .least6 .ensures .0 .1)
+
+slice-aggregate-bump-clause-7 : tie.Need-slice-aggregate-bump-clause-7
+slice-aggregate-bump-clause-7 c = cut _ _ (c .before .before .before .before .before .before .before .least7 .ensures .0 .1)
+
+bump-clause-requires : tie.Need-bump-clause-requires
+bump-clause-requires c κs = search needs
+
+plain-requires : tie.Need-plain-requires
+plain-requires c κs = search needs
+
+same-length : tie.Need-same-length
+same-length c = search needs
+
+same-length-2 : tie.Need-same-length-2
+same-length-2 c = search needs
+
+same-length-3 : tie.Need-same-length-3
+same-length-3 c = search needs
+
+same-length-4 : tie.Need-same-length-4
+same-length-4 c = search needs
+
+same-length-5 : tie.Need-same-length-5
+same-length-5 c = search needs
+
+same-length-6 : tie.Need-same-length-6
+same-length-6 c = search needs
+
+returns : tie.Need-returns
+returns c = search needs
+
+pub bump-spec : {M : Type 1} → statement M
+bump-spec =
+    tie.close
+    (tie.spec
+    lent-vars-requires
+    least-requires
+    least-requires-2
+    least-requires-3
+    least-requires-4
+    least-requires-5
+    least-requires-6
+    least-requires-7
+    slice-relend-prefix-bump-clause
+    slice-aggregate-bump-clause
+    slice-relend-prefix-bump-clause-2
+    slice-aggregate-bump-clause-2
+    slice-relend-prefix-bump-clause-3
+    slice-aggregate-bump-clause-3
+    slice-relend-prefix-bump-clause-4
+    slice-aggregate-bump-clause-4
+    slice-relend-prefix-bump-clause-5
+    slice-aggregate-bump-clause-5
+    slice-relend-prefix-bump-clause-6
+    slice-aggregate-bump-clause-6
+    slice-aggregate-bump-clause-7
+    bump-clause-requires
+    plain-requires
+    same-length
+    same-length-2
+    same-length-3
+    same-length-4
+    same-length-5
+    same-length-6
+    returns)
