@@ -1,0 +1,257 @@
+// The lines that clean up: each lends the parts that `op=room` and V leave of the walk's buffers.
+use kinds::ClauseRef;
+use walk_kinds::Told;
+use walk_kinds::Walk;
+
+// `op=delete`
+pub fn delete(
+    walk: Walk,
+    words: &mut [u32],
+    clauses: &mut [u32],
+    irred: &mut [u32],
+    core: &mut [u32],
+    mid: &mut [u32],
+    local: &mut [u32],
+    rec: &mut [u32],
+    values: &[u8],
+    kinds: &[u8],
+    reasons: &[u32],
+    levels: &[u32],
+    trail: &[u32],
+    cref: ClauseRef,
+) -> Told {
+    let rooms = walk.rooms;
+    let state = walk.state;
+    let assigned = walk.assigned;
+    let level = walk.level;
+    let vars = walk_kinds::lent_vars(state.vars);
+    let words_lent = walk_kinds::least(rooms.words, words.len());
+    let clauses_lent = walk_kinds::least(rooms.clauses, clauses.len());
+    let irred_lent = walk_kinds::least(rooms.irred, irred.len());
+    let core_lent = walk_kinds::least(rooms.core, core.len());
+    let mid_lent = walk_kinds::least(rooms.mid, mid.len());
+    let local_lent = walk_kinds::least(rooms.local, local.len());
+    let rec_lent = walk_kinds::least(rooms.rec, rec.len());
+    let values_lent = walk_kinds::least(vars, values.len());
+    let kinds_lent = walk_kinds::least(vars, kinds.len());
+    let reasons_lent = walk_kinds::least(vars, reasons.len());
+    let levels_lent = walk_kinds::least(vars, levels.len());
+    let reply = delete_calls::delete_clause(
+        state,
+        &mut words[..words_lent],
+        &mut clauses[..clauses_lent],
+        &mut irred[..irred_lent],
+        &mut core[..core_lent],
+        &mut mid[..mid_lent],
+        &mut local[..local_lent],
+        &mut rec[..rec_lent],
+        &values[..values_lent],
+        &kinds[..kinds_lent],
+        &reasons[..reasons_lent],
+        &levels[..levels_lent],
+        trail,
+        assigned,
+        level,
+        cref,
+    );
+    walk_replies::changed(walk, reply)
+}
+
+// `op=locals`
+pub fn locals(
+    walk: Walk,
+    words: &mut [u32],
+    clauses: &mut [u32],
+    irred: &mut [u32],
+    core: &mut [u32],
+    mid: &mut [u32],
+    local: &mut [u32],
+    rec: &mut [u32],
+    values: &[u8],
+    kinds: &[u8],
+    reasons: &[u32],
+    levels: &[u32],
+    trail: &[u32],
+) -> Told {
+    let rooms = walk.rooms;
+    let state = walk.state;
+    let assigned = walk.assigned;
+    let level = walk.level;
+    let vars = walk_kinds::lent_vars(state.vars);
+    let words_lent = walk_kinds::least(rooms.words, words.len());
+    let clauses_lent = walk_kinds::least(rooms.clauses, clauses.len());
+    let irred_lent = walk_kinds::least(rooms.irred, irred.len());
+    let core_lent = walk_kinds::least(rooms.core, core.len());
+    let mid_lent = walk_kinds::least(rooms.mid, mid.len());
+    let local_lent = walk_kinds::least(rooms.local, local.len());
+    let rec_lent = walk_kinds::least(rooms.rec, rec.len());
+    let values_lent = walk_kinds::least(vars, values.len());
+    let kinds_lent = walk_kinds::least(vars, kinds.len());
+    let reasons_lent = walk_kinds::least(vars, reasons.len());
+    let levels_lent = walk_kinds::least(vars, levels.len());
+    let reply = reduce_calls::reduce_locals(
+        state,
+        &mut words[..words_lent],
+        &mut clauses[..clauses_lent],
+        &mut irred[..irred_lent],
+        &mut core[..core_lent],
+        &mut mid[..mid_lent],
+        &mut local[..local_lent],
+        &mut rec[..rec_lent],
+        &values[..values_lent],
+        &kinds[..kinds_lent],
+        &reasons[..reasons_lent],
+        &levels[..levels_lent],
+        trail,
+        assigned,
+        level,
+    );
+    walk_replies::changed(walk, reply)
+}
+
+// `op=collect`
+pub fn collect(
+    walk: Walk,
+    words: &mut [u32],
+    clauses: &mut [u32],
+    irred: &mut [u32],
+    core: &mut [u32],
+    mid: &mut [u32],
+    local: &mut [u32],
+    values: &[u8],
+    kinds: &[u8],
+    reasons: &mut [u32],
+    levels: &[u32],
+    trail: &[u32],
+) -> Told {
+    let rooms = walk.rooms;
+    let state = walk.state;
+    let assigned = walk.assigned;
+    let level = walk.level;
+    let vars = walk_kinds::lent_vars(state.vars);
+    let words_lent = walk_kinds::least(rooms.words, words.len());
+    let clauses_lent = walk_kinds::least(rooms.clauses, clauses.len());
+    let irred_lent = walk_kinds::least(rooms.irred, irred.len());
+    let core_lent = walk_kinds::least(rooms.core, core.len());
+    let mid_lent = walk_kinds::least(rooms.mid, mid.len());
+    let local_lent = walk_kinds::least(rooms.local, local.len());
+    let values_lent = walk_kinds::least(vars, values.len());
+    let kinds_lent = walk_kinds::least(vars, kinds.len());
+    let reasons_lent = walk_kinds::least(vars, reasons.len());
+    let levels_lent = walk_kinds::least(vars, levels.len());
+    let reply = gc::collect_garbage(
+        state,
+        &mut words[..words_lent],
+        &mut clauses[..clauses_lent],
+        &mut irred[..irred_lent],
+        &mut core[..core_lent],
+        &mut mid[..mid_lent],
+        &mut local[..local_lent],
+        &values[..values_lent],
+        &kinds[..kinds_lent],
+        &mut reasons[..reasons_lent],
+        &levels[..levels_lent],
+        trail,
+        assigned,
+        level,
+    );
+    walk_replies::changed(walk, reply)
+}
+
+// `op=units`
+pub fn units(
+    walk: Walk,
+    words: &[u32],
+    clauses: &[u32],
+    rec: &mut [u32],
+    values: &[u8],
+    kinds: &mut [u8],
+    reasons: &mut [u32],
+    levels: &[u32],
+    trail: &mut [u32],
+) -> Told {
+    let rooms = walk.rooms;
+    let state = walk.state;
+    let assigned = walk.assigned;
+    let level = walk.level;
+    let vars = walk_kinds::lent_vars(state.vars);
+    let words_lent = walk_kinds::least(rooms.words, words.len());
+    let clauses_lent = walk_kinds::least(rooms.clauses, clauses.len());
+    let rec_lent = walk_kinds::least(rooms.rec, rec.len());
+    let values_lent = walk_kinds::least(vars, values.len());
+    let kinds_lent = walk_kinds::least(vars, kinds.len());
+    let reasons_lent = walk_kinds::least(vars, reasons.len());
+    let levels_lent = walk_kinds::least(vars, levels.len());
+    let reply = unit_simplify::prove_units(
+        state,
+        &words[..words_lent],
+        &clauses[..clauses_lent],
+        &mut rec[..rec_lent],
+        &values[..values_lent],
+        &mut kinds[..kinds_lent],
+        &mut reasons[..reasons_lent],
+        &levels[..levels_lent],
+        trail,
+        assigned,
+        level,
+    );
+    walk_replies::proved(walk, reply)
+}
+
+// `op=simplify`
+pub fn simplify(
+    walk: Walk,
+    words: &mut [u32],
+    clauses: &mut [u32],
+    irred: &mut [u32],
+    core: &mut [u32],
+    mid: &mut [u32],
+    local: &mut [u32],
+    rows: &mut [u32],
+    counts: &mut [u32],
+    rec: &mut [u32],
+    values: &[u8],
+    kinds: &[u8],
+    reasons: &[u32],
+    levels: &[u32],
+    trail: &[u32],
+) -> Told {
+    let rooms = walk.rooms;
+    let state = walk.state;
+    let assigned = walk.assigned;
+    let level = walk.level;
+    let vars = walk_kinds::lent_vars(state.vars);
+    let words_lent = walk_kinds::least(rooms.words, words.len());
+    let clauses_lent = walk_kinds::least(rooms.clauses, clauses.len());
+    let irred_lent = walk_kinds::least(rooms.irred, irred.len());
+    let core_lent = walk_kinds::least(rooms.core, core.len());
+    let mid_lent = walk_kinds::least(rooms.mid, mid.len());
+    let local_lent = walk_kinds::least(rooms.local, local.len());
+    let rows_lent = walk_kinds::least(rooms.rows, rows.len());
+    let counts_lent = walk_kinds::least(2 * vars, counts.len());
+    let rec_lent = walk_kinds::least(rooms.rec, rec.len());
+    let values_lent = walk_kinds::least(vars, values.len());
+    let kinds_lent = walk_kinds::least(vars, kinds.len());
+    let reasons_lent = walk_kinds::least(vars, reasons.len());
+    let levels_lent = walk_kinds::least(vars, levels.len());
+    let reply = unit_simplify::unit_simplify(
+        state,
+        &mut words[..words_lent],
+        &mut clauses[..clauses_lent],
+        &mut irred[..irred_lent],
+        &mut core[..core_lent],
+        &mut mid[..mid_lent],
+        &mut local[..local_lent],
+        &mut rows[..rows_lent],
+        &mut counts[..counts_lent],
+        &mut rec[..rec_lent],
+        &values[..values_lent],
+        &kinds[..kinds_lent],
+        &reasons[..reasons_lent],
+        &levels[..levels_lent],
+        trail,
+        assigned,
+        level,
+    );
+    walk_replies::changed(walk, reply)
+}
