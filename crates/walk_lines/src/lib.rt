@@ -1,0 +1,201 @@
+// What a line of a walk means: which call with which arguments, or unreadable. docs/walk.md has the table.
+ghost use mathlib.Core.Path.{_≡_};
+ghost use mathlib.Core.Bool.{true};
+ghost use Prim.Native.Nat.{ℕ, suc, _+_, _-_, _*_, _^_, _≤_, _<_};
+ghost use lib.ListN.{length, take, drop};
+ghost use Rattle.walk_lines.specs.Lines.{digit, whole as Lines·whole, number, listed, matching, meaning, nth as Lines·nth, switched as Lines·switched, patternAt, meantAt};
+ghost use Rattle.walk_lines.specs.Told.{numberOf, digitsAt, takenOf, prefixed, meaningOf};
+use kinds::ClauseRef;
+use kinds::Lit;
+use kinds::Var;
+use walk_kinds::Rooms;
+
+// The number at a place of a line, and the place behind it.
+pub enum Digits {
+    Nothing,
+    Number(u32, usize),
+}
+
+// How many numbers of a line stand in the lent buffer, where the line is of the pattern.
+pub enum Matched {
+    Other,
+    Numbers(usize),
+}
+
+// A line that was read. A list stands in the lent buffer: of a long clause behind tier and glue, up to the number of all numbers of the line.
+pub enum Line {
+    Unreadable,
+    Start(u32),
+    Room(Rooms),
+    Long(u32, u32, usize),
+    Binary(usize),
+    Tier(ClauseRef, u32),
+    Delete(ClauseRef),
+    Bump(ClauseRef),
+    Decay,
+    Locals,
+    Mids,
+    Collect,
+    Units,
+    Simplify,
+    Empty,
+    Assess(usize),
+    Implied(Lit),
+    Literals(ClauseRef),
+    View(u32, u32),
+    Unit(Lit),
+    Assign(Lit, u32, u32, u32),
+    Undo,
+    Level(u32),
+    Depth(Var, u32),
+    Poke(u32, u32, u32),
+    Answers(bool),
+    Show,
+    Dump,
+    Tails,
+}
+
+// ---- numbers
+
+fn is_digit(b: u8) -> bool
+    ensures { λ r. ⌜ r ≡ digit b ⌝ }
+{
+    if b <= 47 {
+        return false;
+    }
+    b < 58
+}
+
+// Whether k digits with the value v are a number.
+fn is_whole(k: usize, v: u64) -> bool
+    ensures { λ r. ⌜ r ≡ Lines·whole k v ⌝ }
+{
+    if k == 0 {
+        return false;
+    }
+    v < 0x1_0000_0000
+}
+
+// One digit more.
+fn with_digit(k: usize, v: u64, b: u8) -> u64
+    requires { ⌜ (k < 10) × (v < 10 ^ k) × (digit b ≡ true) ⌝ }
+    ensures { λ r. ⌜ (r ≡ v * 10 + (b - 48)) × (r < 10 ^ suc k) ⌝ }
+{
+    v * 10 + (b - 48) as u64
+}
+
+fn number_of(k: usize, v: u64, i: usize) -> Digits
+    ensures { λ r. ⌜ r ≡ digitsAt k v i ⌝ }
+{
+    if !is_whole(k, v) {
+        return Digits::Nothing;
+    }
+    Digits::Number(v as u32, i)
+}
+
+// The number at a place.
+fn number_at(line: &[u8], from: usize) -> Digits
+    ensures { λ r. ⌜ numberOf (now (line .entry)) r ≡ number 0 0 (drop from (now (line .entry))) ⌝ }
+{
+    let mut i = from;
+    let mut k = 0;
+    let mut v = 0u64;
+    while i < line.len() {
+        let b = line[i];
+        if !is_digit(b) {
+            return number_of(k, v, i);
+        }
+        if k >= 10 {
+            return Digits::Nothing;
+        }
+        v = with_digit(k, v, b);
+        k += 1;
+        i += 1;
+    }
+    number_of(k, v, i)
+}
+
+// The list from a place to the line's end, into values behind n numbers.
+fn list_from(line: &[u8], from: usize, values: &mut [u32], n: usize) -> Matched
+    requires { ⌜ (n ≤ 1024) × (length (now values) ≡ 2048) ⌝ }
+    ensures { λ r. ⌜ takenOf (now (values .exit)) r ≡ prefixed (take n (now (values .entry))) (listed (drop from (now (line .entry)))) ⌝ }
+{
+    if from >= line.len() {
+        return Matched::Numbers(n);
+    }
+    let mut i = from;
+    let mut m = 0;
+    let mut k = 0;
+    let mut v = 0u64;
+    while i < line.len() {
+        let b = line[i];
+        i += 1;
+        if b == 44 {
+            if m >= 1024 {
+                return Matched::Other;
+            }
+            if !is_whole(k, v) {
+                return Matched::Other;
+            }
+            values[n + m] = v as u32;
+            m += 1;
+            k = 0;
+            v = 0;
+            continue;
+        }
+        if !is_digit(b) {
+            return Matched::Other;
+        }
+        if k >= 10 {
+            return Matched::Other;
+        }
+        v = with_digit(k, v, b);
+        k += 1;
+    }
+    if m >= 1024 {
+        return Matched::Other;
+    }
+    if !is_whole(k, v) {
+        return Matched::Other;
+    }
+    values[n + m] = v as u32;
+    Matched::Numbers(n + m + 1)
+}
+
+// The numbers of a line that is of a pattern.
+fn matches(pattern: &[u8], line: &[u8], values: &mut [u32]) -> Matched
+    requires { ⌜ (length (now pattern) ≤ 1024) × (length (now values) ≡ 2048) ⌝ }
+    ensures { λ r. ⌜ takenOf (now (values .exit)) r ≡ matching (now (pattern .entry)) (now (line .entry)) ⌝ }
+{
+    let mut p = 0;
+    let mut i = 0;
+    let mut n = 0;
+    while p < pattern.len() {
+        let b = pattern[p];
+        p += 1;
+        if b == 35 {
+            let found = number_at(line, i);
+            let Digits::Number(v, next) = found else {
+                return Matched::Other;
+            };
+            values[n] = v;
+            n += 1;
+            i = next;
+            continue;
+        }
+        if b == 42 {
+            return list_from(line, i, values, n);
+        }
+        if i >= line.len() {
+            return Matched::Other;
+        }
+        if b != line[i] {
+            return Matched::Other;
+        }
+        i += 1;
+    }
+    if i < line.len() {
+        return Matched::Other;
+    }
+    Matched::Numbers(n)
+}
