@@ -1,3 +1,4 @@
 pub mod Numbers
 pub mod Lists
 pub mod Patterns
+pub mod Table

@@ -38,62 +38,62 @@ module _ {pattern line values : List ℕ} {p i n : ℕ} (at : Matching pattern l
 
   next-is : p < length pattern → prefixed (take n values) (cond (eqb b 35) (after (number 0 0 (drop i line)) (matching (drop (suc p) pattern))) (cond (eqb b 42) (listed (drop i line)) (byte b (drop i line) (matching (drop (suc p) pattern))))) ≡ matching pattern line
   unfolding matching
-  next-is more = let e : drop p pattern ≡ b ∷ drop (suc p) pattern = drop-cons pattern p 0 more in rw e at (at .is)
+  next-is further = let e : drop p pattern ≡ b ∷ drop (suc p) pattern = drop-cons pattern p 0 further in rw e at (at .is)
 
   at-number : p < length pattern → b ≡ 35 → prefixed (take n values) (after (number 0 0 (drop i line)) (matching (drop (suc p) pattern))) ≡ matching pattern line
-  at-number more hash = let f : eqb b 35 ≡ true = eq-eqb b 35 hash in rw f at (next-is more)
+  at-number further hash = let f : eqb b 35 ≡ true = eq-eqb b 35 hash in rw f at (next-is further)
 
-  pub match-none : {r : Digits} → p < length pattern → b ≡ 35 → numberOf line r ≡ number 0 0 (drop i line) → tagOf digits.the-type r ≡ 0 → no ≡ matching pattern line
+  pub match-none : (r : Digits) → p < length pattern → b ≡ 35 → numberOf line r ≡ number 0 0 (drop i line) → tagOf digits.the-type r ≡ 0 → no ≡ matching pattern line
   unfolding after
-  match-none {r} more hash found nothing =
+  match-none r further hash found nothing =
       let e : number 0 0 (drop i line) ≡ none = sym found ∙ none-told line r nothing in
-      sym (prefixed-no _) ∙ (rw e at (at-number more hash))
+      sym (prefixed-no _) ∙ (rw e at (at-number further hash))
 
-  pub match-number : {r : Digits} {v next : ℕ} → p < length pattern → b ≡ 35 → numberOf line r ≡ number 0 0 (drop i line) → r ≡ ANumber v next → Matching pattern line (set values n v) (p + 1) next (n + 1)
+  pub match-number : (r : Digits) {v next : ℕ} → p < length pattern → b ≡ 35 → numberOf line r ≡ number 0 0 (drop i line) → r ≡ ANumber v next → Matching pattern line (set values n v) (p + 1) next (n + 1)
   unfolding after
-  match-number {r} {v} {next} fewer hash found told =
+  match-number r {v} {next} further hash found told =
       let e : number 0 0 (drop i line) ≡ is v (drop next line) = sym found ∙ ap (numberOf line) told in
-      let g : prefixed (take n values) (more v (matching (drop (suc p) pattern) (drop next line))) ≡ matching pattern line = rw e at (at-number fewer hash) in
+      let g : prefixed (take n values) (more v (matching (drop (suc p) pattern) (drop next line))) ≡ matching pattern line = rw e at (at-number further hash) in
       let q : p + 1 ≡ suc p = add-one p in
       let m : n + 1 ≡ suc n = add-one n in
       let s : take (suc n) (set values n v) ≡ take n values ++ v ∷ [] = take-suc-set values n v (omega arith) in
       record { count = omega arith; inside = omega arith; short = at .short; room = length-set values n v ∙ at .room; is = rw (q, m, s) (prefixed-more _ v _ ∙ g) }
 
   pub match-list : {t : Taken} → p < length pattern → (b ≡ 35 → ⊥) → b ≡ 42 → t ≡ prefixed (take n values) (listed (drop i line)) → t ≡ matching pattern line
-  match-list more other star found =
+  match-list further other star found =
       let f : eqb b 35 ≡ false = ne-eqb b 35 other in
       let g : eqb b 42 ≡ true = eq-eqb b 42 star in
-      found ∙ (rw (f, g) at (next-is more))
+      found ∙ (rw (f, g) at (next-is further))
 
   at-byte : p < length pattern → (b ≡ 35 → ⊥) → (b ≡ 42 → ⊥) → prefixed (take n values) (byte b (drop i line) (matching (drop (suc p) pattern))) ≡ matching pattern line
-  at-byte more hash star =
+  at-byte further hash star =
       let f : eqb b 35 ≡ false = ne-eqb b 35 hash in
       let g : eqb b 42 ≡ false = ne-eqb b 42 star in
-      rw (f, g) at (next-is more)
+      rw (f, g) at (next-is further)
 
   pub match-out : p < length pattern → (b ≡ 35 → ⊥) → (b ≡ 42 → ⊥) → length line ≤ i → no ≡ matching pattern line
   unfolding byte
-  match-out more hash star out =
+  match-out further hash star out =
       let e : drop i line ≡ [] = drop-of-length-le line {i = i} out in
-      sym (prefixed-no _) ∙ (rw e at (at-byte more hash star))
+      sym (prefixed-no _) ∙ (rw e at (at-byte further hash star))
 
   at-both : p < length pattern → (b ≡ 35 → ⊥) → (b ≡ 42 → ⊥) → i < length line → prefixed (take n values) (cond (eqb b (getD line i 0)) (matching (drop (suc p) pattern) (drop (suc i) line)) no) ≡ matching pattern line
   unfolding byte
-  at-both more hash star inside =
+  at-both further hash star inside =
       let e : drop i line ≡ getD line i 0 ∷ drop (suc i) line = drop-cons line i 0 inside in
-      rw e at (at-byte more hash star)
+      rw e at (at-byte further hash star)
 
   pub match-differs : p < length pattern → (b ≡ 35 → ⊥) → (b ≡ 42 → ⊥) → i < length line → (b ≡ getD line i 0 → ⊥) → no ≡ matching pattern line
-  match-differs more hash star inside differs =
+  match-differs further hash star inside differs =
       let f : eqb b (getD line i 0) ≡ false = ne-eqb b (getD line i 0) differs in
-      sym (prefixed-no _) ∙ (rw f at (at-both more hash star inside))
+      sym (prefixed-no _) ∙ (rw f at (at-both further hash star inside))
 
   pub match-byte : p < length pattern → (b ≡ 35 → ⊥) → (b ≡ 42 → ⊥) → i < length line → b ≡ getD line i 0 → Matching pattern line values (p + 1) (i + 1) n
-  match-byte more hash star inside same =
+  match-byte further hash star inside same =
       let f : eqb b (getD line i 0) ≡ true = eq-eqb b (getD line i 0) same in
       let q : p + 1 ≡ suc p = add-one p in
       let m : i + 1 ≡ suc i = add-one i in
-      record { count = omega arith; inside = omega arith; short = at .short; room = at .room; is = rw (q, m) (rw f at (at-both more hash star inside)) }
+      record { count = omega arith; inside = omega arith; short = at .short; room = at .room; is = rw (q, m) (rw f at (at-both further hash star inside)) }
 
   pub match-more : length pattern ≤ p → i < length line → no ≡ matching pattern line
   unfolding matching

@@ -72,7 +72,7 @@ pub data Meaning : Type 0 where
   -- prints `op=none answer=99` and changes nothing
   unreadable : Meaning
   start : ℕ → Meaning
-  -- words, clauses, irred, core, mid, local, rows, record
+  -- the eight lengths lent
   room : List ℕ → Meaning
   -- a call on the store, or one that reads it
   call : Command → Meaning
@@ -97,6 +97,10 @@ pub data Meaning : Type 0 where
 unfoldable pub nth : List ℕ → ℕ → ℕ
 nth vs i = getD vs i 0
 
+-- words, clauses, irred, core, mid, local, rows, record
+unfoldable pub roomMeant : List ℕ → Meaning
+roomMeant vs = room (nth vs 0 ∷ nth vs 1 ∷ nth vs 2 ∷ nth vs 3 ∷ nth vs 4 ∷ nth vs 5 ∷ nth vs 6 ∷ nth vs 7 ∷ [])
+
 -- "N 1: .. on; N 0: off again; else unreadable"
 unfoldable pub switched : ℕ → Meaning
 switched n = cond (eqb n 0) (answers false) (cond (eqb n 1) (answers true) unreadable)
@@ -108,7 +112,7 @@ pub data Op : Type 0 where
 unfoldable pub ops : List Op
 ops =
     op "op=start vars=#" (λ vs. start (nth vs 0)) ∷
-    op "op=room words=# clauses=# irred=# core=# mid=# local=# rows=# record=#" (λ vs. room (nth vs 0 ∷ nth vs 1 ∷ nth vs 2 ∷ nth vs 3 ∷ nth vs 4 ∷ nth vs 5 ∷ nth vs 6 ∷ nth vs 7 ∷ [])) ∷
+    op "op=room words=# clauses=# irred=# core=# mid=# local=# rows=# record=#" roomMeant ∷
     op "op=long tier=# glue=# lits=*" (λ vs. call (addClause (nth vs 0) (nth vs 1) (drop 2 vs))) ∷
     op "op=binary lits=*" (λ vs. call (addBinary vs)) ∷
     op "op=tier ref=# tier=#" (λ vs. call (setTier (nth vs 0) (nth vs 1))) ∷

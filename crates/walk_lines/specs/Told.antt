@@ -31,10 +31,13 @@ unfoldable pub prefixed : List ℕ → Taken → Taken
 prefixed vs no = no
 prefixed vs (taken ws) = taken (vs ++ ws)
 
+abbrev pub roomOf : Rooms → Meaning
+roomOf r = room (r .words ∷ r .clauses ∷ r .irred ∷ r .core ∷ r .mid ∷ r .local ∷ r .rows ∷ r .rec ∷ [])
+
 abbrev pub meaningOf : List ℕ → Line → Meaning
 meaningOf values Unreadable = unreadable
 meaningOf values (Start v) = start v
-meaningOf values (Room r) = room (r .words ∷ r .clauses ∷ r .irred ∷ r .core ∷ r .mid ∷ r .local ∷ r .rows ∷ r .rec ∷ [])
+meaningOf values (Room r) = roomOf r
 meaningOf values (Long t g n) = call (addClause t g (drop 2 (take n values)))
 meaningOf values (Binary n) = call (addBinary (take n values))
 meaningOf values (Tier o t) = call (setTier (o .0) t)

@@ -3,8 +3,8 @@ ghost use mathlib.Core.Path.{_≡_};
 ghost use mathlib.Core.Bool.{true};
 ghost use Prim.Native.Nat.{ℕ, suc, _+_, _-_, _*_, _^_, _≤_, _<_};
 ghost use lib.ListN.{length, take, drop};
-ghost use Rattle.walk_lines.specs.Lines.{digit, whole as Lines·whole, number, listed, matching, meaning, nth as Lines·nth, switched as Lines·switched, patternAt, meantAt};
-ghost use Rattle.walk_lines.specs.Told.{numberOf, digitsAt, takenOf, prefixed, meaningOf};
+ghost use Rattle.walk_lines.specs.Lines.{digit, whole as Lines·whole, number, listed, matching, meaning, nth as Lines·nth, roomMeant, patternAt, meantAt};
+ghost use Rattle.walk_lines.specs.Told.{numberOf, digitsAt, takenOf, prefixed, roomOf, meaningOf};
 use kinds::ClauseRef;
 use kinds::Lit;
 use kinds::Var;
@@ -198,4 +198,110 @@ fn matches(pattern: &[u8], line: &[u8], values: &mut [u32]) -> Matched
         return Matched::Other;
     }
     Matched::Numbers(n)
+}
+
+// Whether a line is of the pattern of an op, by the op's place in the table: the table in four parts.
+fn tried_to_6(op: usize, line: &[u8], values: &mut [u32]) -> Matched
+    requires { ⌜ (op < 7) × (length (now values) ≡ 2048) ⌝ }
+    ensures { λ r. ⌜ takenOf (now (values .exit)) r ≡ matching (patternAt op) (now (line .entry)) ⌝ }
+{
+    match op {
+        0 => return matches(b"op=start vars=#", line, values),
+        1 => return matches(b"op=room words=# clauses=# irred=# core=# mid=# local=# rows=# record=#", line, values),
+        2 => return matches(b"op=long tier=# glue=# lits=*", line, values),
+        3 => return matches(b"op=binary lits=*", line, values),
+        4 => return matches(b"op=tier ref=# tier=#", line, values),
+        5 => return matches(b"op=delete ref=#", line, values),
+        _ => return matches(b"op=bump ref=#", line, values),
+    }
+}
+
+// ---- what the numbers mean
+
+// The i-th of n numbers.
+fn nth(values: &[u32], n: usize, i: usize) -> u32
+    ensures { λ r. ⌜ r ≡ Lines·nth (take n (now (values .entry))) i ⌝ }
+{
+    if i >= n {
+        return 0;
+    }
+    if i >= values.len() {
+        return 0;
+    }
+    values[i]
+}
+
+fn rooms_of(values: &[u32], n: usize) -> Rooms
+    ensures { λ r. ⌜ roomOf r ≡ roomMeant (take n (now (values .entry))) ⌝ }
+{
+    let words = nth(values, n, 0);
+    let clauses = nth(values, n, 1);
+    let irred = nth(values, n, 2);
+    let core = nth(values, n, 3);
+    let mid = nth(values, n, 4);
+    let local = nth(values, n, 5);
+    let rows = nth(values, n, 6);
+    let rec = nth(values, n, 7);
+    Rooms {
+        words: words as usize,
+        clauses: clauses as usize,
+        irred: irred as usize,
+        core: core as usize,
+        mid: mid as usize,
+        local: local as usize,
+        rows: rows as usize,
+        rec: rec as usize,
+    }
+}
+
+// What the n numbers of an op mean, by the op's place in the table.
+fn line_of(op: usize, values: &[u32], n: usize) -> Line
+    requires { ⌜ op < 28 ⌝ }
+    ensures { λ r. ⌜ meaningOf (now (values .entry)) r ≡ meantAt op (take n (now (values .entry))) ⌝ }
+{
+    let a = nth(values, n, 0);
+    let b = nth(values, n, 1);
+    let c = nth(values, n, 2);
+    let d = nth(values, n, 3);
+    match op {
+        0 => return Line::Start(a),
+        1 => {
+            let rooms = rooms_of(values, n);
+            return Line::Room(rooms);
+        }
+        2 => return Line::Long(a, b, n),
+        3 => return Line::Binary(n),
+        4 => return Line::Tier(ClauseRef(a), b),
+        5 => return Line::Delete(ClauseRef(a)),
+        6 => return Line::Bump(ClauseRef(a)),
+        7 => return Line::Decay,
+        8 => return Line::Locals,
+        9 => return Line::Mids,
+        10 => return Line::Collect,
+        11 => return Line::Units,
+        12 => return Line::Simplify,
+        13 => return Line::Empty,
+        14 => return Line::Assess(n),
+        15 => return Line::Implied(Lit(a)),
+        16 => return Line::Literals(ClauseRef(a)),
+        17 => return Line::View(a, b),
+        18 => return Line::Unit(Lit(a)),
+        19 => return Line::Assign(Lit(a), b, c, d),
+        20 => return Line::Undo,
+        21 => return Line::Level(a),
+        22 => return Line::Depth(Var(a), b),
+        23 => return Line::Poke(a, b, c),
+        24 => {
+            if a == 0 {
+                return Line::Answers(false);
+            }
+            if a == 1 {
+                return Line::Answers(true);
+            }
+            return Line::Unreadable;
+        }
+        25 => return Line::Show,
+        26 => return Line::Dump,
+        _ => return Line::Tails,
+    }
 }

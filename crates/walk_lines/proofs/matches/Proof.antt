@@ -1,127 +1,101 @@
+use borrow.Author.Needs.{needs}
+use native.Mathlib.Omega.{arith}
+use mathlib.Core.Path.{_≡_, refl, sym, ap, _∙_}
+use Prim.Native.Nat.{_-_}
+use lib.ListN.{length}
+use Rattle.walk_lines.proofs.Patterns.{Matching, match-start, match-none, match-number, match-list, match-out, match-differs, match-byte, match-more, match-end}
 use Rattle.walk_lines.proofs.matches.Statement.{statement}
 use Rattle.walk_lines.proofs.matches.Tie as tie
-use Rattle.walk_lines.proofs.matches.Reads as reads
-use Rattle.walk_lines.proofs.matches.Lts as lts
-use Rattle.walk_lines.proofs.list_from.Reads as list-from-reads
-use Rattle.walk_lines.proofs.number_at.Reads as number-at-reads
 
 abbrev Inv-loop : tie.InvT-loop
-Inv-loop pattern line values₀ p₀ i₀ n₀ values p i n = ?
+Inv-loop pattern line values₀ p₀ i₀ n₀ values p i n = Matching pattern line values p i n
 
 abbrev μ-loop : tie.MeasureT-loop
-μ-loop pattern line values₀ p₀ i₀ n₀ values p i n = ?
+μ-loop pattern line values₀ p₀ i₀ n₀ values p i n = length pattern - p
 
--- src/lib.rt:173:5
 loop-holds : tie.Need-loop-holds Inv-loop μ-loop
-loop-holds c = ?
+loop-holds c = match-start (c .before .before .before .pre .0) (c .before .before .before .pre .1)
 
--- src/lib.rt:174:17
 shared-slice-read-b : tie.Need-shared-slice-read-b Inv-loop μ-loop
-shared-slice-read-b c = ?
+shared-slice-read-b c = search needs
 
--- src/lib.rt:175:9
 add-p : tie.Need-add-p Inv-loop μ-loop
-add-p c = ?
+add-p c = search needs
 
--- src/lib.rt:177:17
 number-at-requires : tie.Need-number-at-requires Inv-loop μ-loop
-number-at-requires c κs = ?
+number-at-requires c κs = search needs
 
--- src/lib.rt:178:32
 enum-known-found : tie.Need-enum-known-found Inv-loop μ-loop
-enum-known-found c = ?
+enum-known-found c = search needs
 
--- src/lib.rt:179:17
 enum-told : tie.Need-enum-told Inv-loop μ-loop
-enum-told c = ?
+enum-told c = search needs
 
--- src/lib.rt:179:17
 same-length : tie.Need-same-length Inv-loop μ-loop
-same-length c = ?
+same-length c = search needs
 
--- src/lib.rt:179:17
 returns : tie.Need-returns Inv-loop μ-loop
-returns c = ?
+returns c = match-none (c .before .before .before .before .before .before .loop .inv) (c .before .before .number-at .result) (c .before .before .before .before .before .loop-test .taken) (c .before .before .before .if1 .taken) (c .before .before .number-at .ensures) (c .before .match .keys2)
 
--- src/lib.rt:181:13
 mul-values : tie.Need-mul-values Inv-loop μ-loop
-mul-values c = ?
+mul-values c = search needs
 
--- src/lib.rt:181:13
 slice-write-values : tie.Need-slice-write-values Inv-loop μ-loop
-slice-write-values c = ?
+slice-write-values c = search needs
 
--- src/lib.rt:182:13
 add-n : tie.Need-add-n Inv-loop μ-loop
-add-n c = ?
+add-n c = search needs
 
--- src/lib.rt:173:5
 loop-less : tie.Need-loop-less Inv-loop μ-loop
-loop-less c = ?
+loop-less c = search needs
 
--- src/lib.rt:173:5
 loop-again : tie.Need-loop-again Inv-loop μ-loop
-loop-again c = ?
+loop-again c = match-number (c .before .before .before .before .before .before .before .loop .inv) (c .before .before .before .number-at .result) (c .before .before .before .before .before .before .loop-test .taken) (c .before .before .before .before .if1 .taken) (c .before .before .before .number-at .ensures) (c .before .found .given .1)
 
--- src/lib.rt:187:13
 list-from-requires : tie.Need-list-from-requires Inv-loop μ-loop
-list-from-requires c κs = ?
+list-from-requires c κs = let l = c .before .before .before .before .before in (omega arith, l .loop .inv .room)
 
--- src/lib.rt:187:13
 same-length-2 : tie.Need-same-length-2 Inv-loop μ-loop
-same-length-2 c = ?
+same-length-2 c = search needs
 
--- src/lib.rt:187:13
 returns-2 : tie.Need-returns-2 Inv-loop μ-loop
-returns-2 c = ?
+returns-2 c = match-list (c .before .before .before .before .before .before .before .before .loop .inv) (c .before .before .before .before .before .before .before .loop-test .taken) (c .before .before .before .before .before .if1 .left) (c .before .before .before .before .if2 .taken) (c .before .before .list-from .ensures)
 
--- src/lib.rt:190:13
 same-length-3 : tie.Need-same-length-3 Inv-loop μ-loop
-same-length-3 c = ?
+same-length-3 c = search needs
 
--- src/lib.rt:190:13
 returns-3 : tie.Need-returns-3 Inv-loop μ-loop
-returns-3 c = ?
+returns-3 c = match-out (c .before .before .before .before .before .loop .inv) (c .before .before .before .before .loop-test .taken) (c .before .before .if1 .left) (c .before .if2 .left) (c .if3 .taken)
 
--- src/lib.rt:192:17
 shared-slice-read-if4 : tie.Need-shared-slice-read-if4 Inv-loop μ-loop
-shared-slice-read-if4 c = ?
+shared-slice-read-if4 c = search needs
 
--- src/lib.rt:193:13
 same-length-4 : tie.Need-same-length-4 Inv-loop μ-loop
-same-length-4 c = ?
+same-length-4 c = search needs
 
--- src/lib.rt:193:13
 returns-4 : tie.Need-returns-4 Inv-loop μ-loop
-returns-4 c = ?
+returns-4 c = match-differs (c .before .before .before .before .before .before .before .loop .inv) (c .before .before .before .before .before .before .loop-test .taken) (c .before .before .before .before .if1 .left) (c .before .before .before .if2 .left) (c .before .before .if3 .left) (c .if4 .taken)
 
--- src/lib.rt:195:9
 add-i : tie.Need-add-i Inv-loop μ-loop
-add-i c = ?
+add-i c = search needs
 
--- src/lib.rt:173:5
 loop-less-2 : tie.Need-loop-less-2 Inv-loop μ-loop
-loop-less-2 c = ?
+loop-less-2 c = search needs
 
--- src/lib.rt:173:5
 loop-again-2 : tie.Need-loop-again-2 Inv-loop μ-loop
-loop-again-2 c = ?
+loop-again-2 c = match-byte (c .before .before .before .before .before .before .before .loop .inv) (c .before .before .before .before .before .before .loop-test .taken) (c .before .before .before .before .if1 .left) (c .before .before .before .if2 .left) (c .before .before .if3 .left) (c .if4 .left)
 
--- src/lib.rt:198:9
 same-length-5 : tie.Need-same-length-5 Inv-loop μ-loop
-same-length-5 c = ?
+same-length-5 c = search needs
 
--- src/lib.rt:198:9
 returns-5 : tie.Need-returns-5 Inv-loop μ-loop
-returns-5 c = ?
+returns-5 c = match-more (c .before .before .loop .inv) (c .before .loop-test .left) (c .if5 .taken)
 
--- src/lib.rt:166:1
 same-length-6 : tie.Need-same-length-6 Inv-loop μ-loop
-same-length-6 c = ?
+same-length-6 c = search needs
 
--- src/lib.rt:166:1
 returns-6 : tie.Need-returns-6 Inv-loop μ-loop
-returns-6 c = ?
+returns-6 c = match-end (c .before .before .loop .inv) (c .before .loop-test .left) (c .if5 .left)
 
 pub matches-spec : {M : Type 1} → statement M
 matches-spec =
