@@ -9,6 +9,11 @@ use lib.ListN.{length, getD, take, drop, length-take, List·getD-eq-default}
 use lib.Seq.{getD-take}
 use lib.Dec.{eqb}
 use borrow.Author.Tests.{eq-eqb, ne-eqb}
+use denote.Enum.Declared.{tagOf}
+use Rattle.walk_lines.specs.Told.{takenOf}
+use Rattle.walk_lines.specs.declared.Matched.{Matched}
+use Rattle.walk_lines.specs.declared.Matched.the-variants.{Other, Numbers}
+use Rattle.walk_lines.proofs.Matched as matched
 use Rattle.walk_lines.specs.Lines.{Taken, no, taken, matching, Meaning, unreadable, answers, nth, switched, Op, op, ops, codes, heard, firstOf, meaning, patternIn, meantIn, patternAt, meantAt}
 
 -- ---- the i-th of n numbers
@@ -38,6 +43,54 @@ unfolding firstOf patternIn meantIn
 next-op [] i line inside = absurd (omega arith)
 next-op (op p m ∷ os) zero line inside = refl
 next-op (op p m ∷ os) (suc i) line inside = next-op os i line (omega arith)
+
+-- the table has 28 ops
+ops-length : length ops ≡ 28
+unfolding ops
+ops-length = refl
+
+after-ops : (line : List ℕ) → firstOf (drop 28 ops) line ≡ unreadable
+unfolding ops firstOf
+after-ops line = refl
+
+-- the ops before the i-th are tried
+pub record Heard (line values : List ℕ) (i : ℕ) : Type 0 where
+  pub room : length values ≡ 2048
+  pub count : i ≤ 28
+  pub is : firstOf (drop i ops) line ≡ meaning line
+
+pub op-start : {line values : List ℕ} → length values ≡ 2048 → Heard line values 0
+unfolding meaning
+op-start room = record { room = room; count = omega arith; is = refl }
+
+none-told : (values : List ℕ) (r : Matched) → tagOf matched.the-type r ≡ 0 → takenOf values r ≡ no
+none-told values Other e = refl
+none-told values (Numbers n) e = absurd (omega arith)
+
+module _ {line before : List ℕ} {i : ℕ} (at : Heard line before i) where
+  at-op : i < 28 → heard (meantAt i) (matching (patternAt i) line) (firstOf (drop (suc i) ops) line) ≡ meaning line
+  unfolding patternAt meantAt
+  at-op inside =
+      let all : length ops ≡ 28 = ops-length in
+      sym (next-op ops i line (omega arith)) ∙ at .is
+
+  pub op-found : (values : List ℕ) (r : Matched) (n : ℕ) {m : Meaning} → i < 28 → takenOf values r ≡ matching (patternAt i) line → r ≡ Numbers n → m ≡ meantAt i (take n values) → m ≡ meaning line
+  unfolding heard
+  op-found values r n inside found told means =
+      let e : matching (patternAt i) line ≡ taken (take n values) = sym found ∙ ap (takenOf values) told in
+      means ∙ (rw e at (at-op inside))
+
+  pub op-next : (values : List ℕ) (r : Matched) → i < 28 → takenOf values r ≡ matching (patternAt i) line → tagOf matched.the-type r ≡ 0 → length values ≡ 2048 → Heard line values (i + 1)
+  unfolding heard
+  op-next values r inside found other room =
+      let e : matching (patternAt i) line ≡ no = sym found ∙ none-told values r other in
+      let q : i + 1 ≡ suc i = add-one i in
+      record { room = room; count = omega arith; is = rw q (rw e at (at-op inside)) }
+
+  pub op-none : 28 ≤ i → unreadable ≡ meaning line
+  op-none out =
+      let e : i ≡ 28 = omega arith in
+      sym (after-ops line) ∙ (rw e at (at .is))
 
 pub switched-off : (a n : ℕ) → a ≡ n → a ≡ 0 → answers false ≡ switched n
 unfolding switched

@@ -216,6 +216,67 @@ fn tried_to_6(op: usize, line: &[u8], values: &mut [u32]) -> Matched
     }
 }
 
+fn tried_to_13(op: usize, line: &[u8], values: &mut [u32]) -> Matched
+    requires { ⌜ (7 ≤ op) × (op < 14) × (length (now values) ≡ 2048) ⌝ }
+    ensures { λ r. ⌜ takenOf (now (values .exit)) r ≡ matching (patternAt op) (now (line .entry)) ⌝ }
+{
+    match op {
+        7 => return matches(b"op=decay", line, values),
+        8 => return matches(b"op=locals", line, values),
+        9 => return matches(b"op=mids", line, values),
+        10 => return matches(b"op=collect", line, values),
+        11 => return matches(b"op=units", line, values),
+        12 => return matches(b"op=simplify", line, values),
+        _ => return matches(b"op=empty", line, values),
+    }
+}
+
+fn tried_to_20(op: usize, line: &[u8], values: &mut [u32]) -> Matched
+    requires { ⌜ (14 ≤ op) × (op < 21) × (length (now values) ≡ 2048) ⌝ }
+    ensures { λ r. ⌜ takenOf (now (values .exit)) r ≡ matching (patternAt op) (now (line .entry)) ⌝ }
+{
+    match op {
+        14 => return matches(b"op=assess lits=*", line, values),
+        15 => return matches(b"op=implied lit=#", line, values),
+        16 => return matches(b"op=literals ref=#", line, values),
+        17 => return matches(b"op=view from=# to=#", line, values),
+        18 => return matches(b"op=unit lit=#", line, values),
+        19 => return matches(b"op=assign lit=# kind=# value=# level=#", line, values),
+        _ => return matches(b"op=undo", line, values),
+    }
+}
+
+fn tried_to_27(op: usize, line: &[u8], values: &mut [u32]) -> Matched
+    requires { ⌜ (21 ≤ op) × (op < 28) × (length (now values) ≡ 2048) ⌝ }
+    ensures { λ r. ⌜ takenOf (now (values .exit)) r ≡ matching (patternAt op) (now (line .entry)) ⌝ }
+{
+    match op {
+        21 => return matches(b"op=level level=#", line, values),
+        22 => return matches(b"op=depth var=# level=#", line, values),
+        23 => return matches(b"op=poke buffer=# at=# value=#", line, values),
+        24 => return matches(b"op=answers on=#", line, values),
+        25 => return matches(b"op=show", line, values),
+        26 => return matches(b"op=dump", line, values),
+        _ => return matches(b"op=tails", line, values),
+    }
+}
+
+fn tried(op: usize, line: &[u8], values: &mut [u32]) -> Matched
+    requires { ⌜ (op < 28) × (length (now values) ≡ 2048) ⌝ }
+    ensures { λ r. ⌜ takenOf (now (values .exit)) r ≡ matching (patternAt op) (now (line .entry)) ⌝ }
+{
+    if op < 7 {
+        return tried_to_6(op, line, values);
+    }
+    if op < 14 {
+        return tried_to_13(op, line, values);
+    }
+    if op < 21 {
+        return tried_to_20(op, line, values);
+    }
+    tried_to_27(op, line, values)
+}
+
 // ---- what the numbers mean
 
 // The i-th of n numbers.
@@ -304,4 +365,27 @@ fn line_of(op: usize, values: &[u32], n: usize) -> Line
         26 => return Line::Dump,
         _ => return Line::Tails,
     }
+}
+
+// The first op of whose pattern the line is.
+fn first_op(line: &[u8], values: &mut [u32]) -> Line
+    requires { ⌜ length (now values) ≡ 2048 ⌝ }
+    ensures { λ r. ⌜ meaningOf (now (values .exit)) r ≡ meaning (now (line .entry)) ⌝ }
+{
+    let mut op = 0;
+    while op < 28 {
+        let found = tried(op, line, values);
+        if let Matched::Numbers(n) = found {
+            return line_of(op, values, n);
+        }
+        op += 1;
+    }
+    Line::Unreadable
+}
+
+// What a line means. The numbers of a list stand in values afterwards.
+pub fn read_line(line: &[u8], values: &mut [u32; 2048]) -> Line
+    ensures { λ r. ⌜ meaningOf (now (values .exit)) r ≡ meaning (now (line .entry)) ⌝ }
+{
+    first_op(line, values)
 }
