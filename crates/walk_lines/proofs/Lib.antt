@@ -2,3 +2,4 @@ pub mod Numbers
 pub mod Lists
 pub mod Patterns
 pub mod Table
+pub mod Read

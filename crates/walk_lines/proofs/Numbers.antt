@@ -1,5 +1,5 @@
 -- One step of reading a number. Assumes nothing.
-use mathlib.Core.Path.{_≡_, refl, sym, ap, _∙_}
+use mathlib.Core.Path.{_≡_, refl, _∙_}
 use mathlib.Core.Bool.{Bool, true, false, cond}
 use mathlib.Core.List.{List, [], _∷_}
 use Prim.Native.Nat.{ℕ, suc, _+_, _-_, _*_, _^_, _≤_, _<_}
@@ -9,9 +9,10 @@ use native.Mathlib.Omega.{arith}
 use lib.ListN.{length, getD, drop, drop-of-length-le}
 use lib.Seq.{drop-cons}
 use lib.Dec.{ltb}
-use borrow.Author.Tests.{lt-ltb, le-ltb, ltb-true, ltb-false}
+use borrow.Author.Tests.{lt-ltb, le-ltb, ltb-true}
 use Rattle.walk_lines.specs.Lines.{digit, whole, Number, none, is, number}
 use Rattle.walk_lines.specs.Told.{numberOf, digitsAt}
+use Rattle.walk_lines.specs.declared.Digits.the-variants.{Nothing, Number as ANumber}
 
 pub digit-from : (b : ℕ) → digit b ≡ true → 48 ≤ b
 unfolding digit
@@ -47,7 +48,7 @@ whole-small k v h = go (ltb 0 k) (ltb v (2 ^ 32)) refl refl h
     go false false d e h = let z : _≡_ {A = Bool} false true = rw d at h in let y : _≡_ {A = ℕ} 0 1 = cc in absurd (omega arith)
 
 module _ (line : List ℕ) (i k v : ℕ) (goal : Number) (before : number k v (drop i line) ≡ goal) where
-  told : (b : Bool) → numberOf line (cond b (Rattle.walk_lines.specs.declared.Digits.the-variants.Number v i) Rattle.walk_lines.specs.declared.Digits.the-variants.Nothing) ≡ cond b (is v (drop i line)) none
+  told : (b : Bool) → numberOf line (cond b (ANumber v i) Nothing) ≡ cond b (is v (drop i line)) none
   told true = refl
   told false = refl
 
@@ -58,7 +59,9 @@ module _ (line : List ℕ) (i k v : ℕ) (goal : Number) (before : number k v (d
       let f : ltb k 10 ≡ true = lt-ltb k 10 few in
       let g : number k v (getD line i 0 ∷ drop (suc i) line) ≡ goal = rw e at before in
       let h : number (suc k) (v * 10 + (getD line i 0 - 48)) (drop (suc i) line) ≡ goal = rw (d, f) at g in
-      rw (add-one, add-one) h
+      let p : k + 1 ≡ suc k = add-one k in
+      let q : i + 1 ≡ suc i = add-one i in
+      rw (p, q) h
 
   pub number-long : i < length line → digit (getD line i 0) ≡ true → 10 ≤ k → none ≡ goal
   unfolding number

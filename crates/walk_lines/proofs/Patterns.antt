@@ -1,6 +1,6 @@
 -- One step of holding a line against a pattern: the pattern is passed up to the place p and the line up to i, and n numbers stand in `values`. Assumes nothing.
 use mathlib.Core.Path.{_≡_, refl, sym, ap, _∙_}
-use mathlib.Core.Bool.{Bool, true, false, cond}
+use mathlib.Core.Bool.{true, false, cond}
 use mathlib.Core.List.{List, [], _∷_, _++_}
 use Prim.Native.Nat.{ℕ, suc, _+_, _≤_, _<_}
 use native.Mathlib.Numerals.{add-one}
@@ -10,7 +10,7 @@ use lib.ListN.{length, getD, take, drop, set, drop-of-length-le, length-set}
 use lib.Seq.{drop-cons, take-suc-set}
 use lib.Dec.{eqb}
 use borrow.Author.Tests.{eq-eqb, ne-eqb}
-use Rattle.walk_lines.specs.Lines.{Number, none, is, number, Taken, no, taken, more, after, listed, byte, matching}
+use Rattle.walk_lines.specs.Lines.{none, is, number, Taken, no, taken, more, after, listed, byte, matching}
 use Rattle.walk_lines.specs.Told.{numberOf, prefixed}
 use Rattle.walk_lines.specs.declared.Digits.{Digits}
 use Rattle.walk_lines.specs.declared.Digits.the-variants.{Nothing, Number as ANumber}

@@ -14,7 +14,7 @@ use Rattle.walk_lines.specs.Told.{takenOf}
 use Rattle.walk_lines.specs.declared.Matched.{Matched}
 use Rattle.walk_lines.specs.declared.Matched.the-variants.{Other, Numbers}
 use Rattle.walk_lines.proofs.Matched as matched
-use Rattle.walk_lines.specs.Lines.{Taken, no, taken, matching, Meaning, unreadable, answers, nth, switched, Op, op, ops, codes, heard, firstOf, meaning, patternIn, meantIn, patternAt, meantAt}
+use Rattle.walk_lines.specs.Lines.{Taken, no, taken, matching, Meaning, unreadable, answers, nth, switched, Op, op, ops, heard, firstOf, meaning, patternIn, meantIn, patternAt, meantAt}
 
 -- ---- the i-th of n numbers
 

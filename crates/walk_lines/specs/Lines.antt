@@ -5,7 +5,7 @@ use Prim.Native.String.{String}
 use Prim.Native.String.{[] as ε, _∷_ as _▸_}
 use mathlib.Core.Bool.{Bool, true, false, cond, _&&_}
 use mathlib.Core.List.{List, [], _∷_}
-use lib.ListN.{getD, take, drop}
+use lib.ListN.{getD, drop}
 use lib.Dec.{eqb, ltb}
 use Rattle.calls.specs.Call.{Command, addClause, setTier, delete, addBinary, implied, literals, assess, bump, decay, reduceLocals, reduceMids, collect, proveUnits, unitSimplify, emptyRecord}
 
@@ -56,11 +56,12 @@ unfoldable pub listed : List ℕ → Taken
 listed [] = taken []
 listed (b ∷ l) = items 1024 0 0 (b ∷ l)
 
--- A pattern is a line with `#` for each number and `*` for a list: the numbers that a line has where it is of that pattern.
+-- a line whose first byte is p
 unfoldable pub byte : ℕ → List ℕ → (List ℕ → Taken) → Taken
 byte p [] rest = no
 byte p (b ∷ l) rest = cond (eqb p b) (rest l) no
 
+-- A pattern is a line with `#` for each number and `*` for a list: the numbers that a line has where it is of that pattern.
 unfoldable pub matching : List ℕ → List ℕ → Taken
 matching [] [] = taken []
 matching [] (b ∷ l) = no
@@ -153,7 +154,8 @@ firstOf (op pattern meant ∷ os) line = heard meant (matching (codes pattern) l
 unfoldable pub meaning : List ℕ → Meaning
 meaning line = firstOf ops line
 
--- the pattern of the i-th op, and what its numbers mean
+-- ---- the table by place: the i-th op's pattern, and what its numbers mean
+
 unfoldable pub patternIn : List Op → ℕ → List ℕ
 patternIn [] i = []
 patternIn (op pattern meant ∷ os) zero = codes pattern

@@ -1,6 +1,6 @@
 -- What the code's answers stand for: values is the buffer that holds the numbers that were read.
 use Prim.Native.Nat.{ℕ}
-use mathlib.Core.Bool.{Bool, true, false, cond}
+use mathlib.Core.Bool.{cond}
 use mathlib.Core.List.{List, [], _∷_, _++_}
 use lib.ListN.{take, drop}
 use Rattle.calls.specs.Call.{addClause, setTier, delete, addBinary, implied, literals, assess, bump, decay, reduceLocals, reduceMids, collect, proveUnits, unitSimplify, emptyRecord}

@@ -207,7 +207,11 @@ fn tried_to_6(op: usize, line: &[u8], values: &mut [u32]) -> Matched
 {
     match op {
         0 => return matches(b"op=start vars=#", line, values),
-        1 => return matches(b"op=room words=# clauses=# irred=# core=# mid=# local=# rows=# record=#", line, values),
+        1 => return matches(
+            b"op=room words=# clauses=# irred=# core=# mid=# local=# rows=# record=#",
+            line,
+            values,
+        ),
         2 => return matches(b"op=long tier=# glue=# lits=*", line, values),
         3 => return matches(b"op=binary lits=*", line, values),
         4 => return matches(b"op=tier ref=# tier=#", line, values),

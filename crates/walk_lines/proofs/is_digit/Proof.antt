@@ -1,5 +1,4 @@
 use borrow.Author.Tests.{lt-ltb, le-ltb}
-use native.Mathlib.Omega.{arith}
 use Rattle.walk_lines.specs.Lines.{digit}
 use Rattle.walk_lines.proofs.is_digit.Statement.{statement}
 use Rattle.walk_lines.proofs.is_digit.Tie as tie

@@ -1,5 +1,4 @@
 use borrow.Author.Tests.{lt-ltb, le-ltb}
-use Prim.Native.Nat.{_<_, _≤_}
 use native.Mathlib.Omega.{arith}
 use Rattle.walk_lines.specs.Lines.{whole}
 use Rattle.walk_lines.proofs.is_whole.Statement.{statement}

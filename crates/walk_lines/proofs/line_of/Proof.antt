@@ -1,8 +1,6 @@
 use borrow.Author.Needs.{needs}
-use native.Mathlib.Omega.{arith}
-use Prim.Native.Nat.{ℕ}
-use mathlib.Core.Path.{_≡_, refl, ap, _∙_}
-use Rattle.walk_lines.specs.Lines.{nth, ops, switched, roomMeant, meantIn, meantAt}
+use mathlib.Core.Path.{_≡_, refl}
+use Rattle.walk_lines.specs.Lines.{ops, meantIn, meantAt}
 use Rattle.walk_lines.proofs.Table.{last-from-0, meant-of, switched-off, switched-on, switched-else}
 use Rattle.walk_lines.proofs.line_of.Statement.{statement}
 use Rattle.walk_lines.proofs.line_of.Tie as tie

@@ -1,6 +1,5 @@
 use borrow.Author.Needs.{needs}
 use native.Mathlib.Omega.{arith}
-use mathlib.Core.Path.{_≡_, refl, sym, ap, _∙_}
 use Prim.Native.Nat.{_-_}
 use lib.ListN.{length}
 use Rattle.walk_lines.proofs.Patterns.{Matching, match-start, match-none, match-number, match-list, match-out, match-differs, match-byte, match-more, match-end}

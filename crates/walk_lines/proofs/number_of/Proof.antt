@@ -1,6 +1,4 @@
 use borrow.Author.Needs.{needs}
-use borrow.Author.Tests.{not-true, not-false}
-use mathlib.Core.Path.{_∙_, sym}
 use native.Mathlib.Omega.{arith}
 use Rattle.laws.proofs.Tests.{passed, failed}
 use Rattle.walk_lines.proofs.Numbers.{whole-small}
