@@ -105,7 +105,7 @@ fn number_at(line: &[u8], from: usize) -> Digits
         if !is_digit(b) {
             return number_of(k, v, i);
         }
-        if k >= 10 {
+        if k == 10 {
             return Digits::Nothing;
         }
         v = with_digit(k, v, b);

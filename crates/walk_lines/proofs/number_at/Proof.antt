@@ -39,12 +39,14 @@ returns-2 : tie.Need-returns-2 Inv-loop μ-loop
 returns-2 c =
     let d = c .before .before in
     let l = d .before .before .before in
-    number-long _ _ _ _ _ (l .loop .inv .2) (d .before .before .loop-test .taken) (passed (d .is-digit .ensures) (c .before .if1 .left)) (c .if2 .taken)
+    let ten : 10 ≤ l .loop .k = omega arith in
+    number-long _ _ _ _ _ (l .loop .inv .2) (d .before .before .loop-test .taken) (passed (d .is-digit .ensures) (c .before .if1 .left)) ten
 
 with-digit-requires : tie.Need-with-digit-requires Inv-loop μ-loop
 with-digit-requires c κs =
     let d = c .before .before in
-    (c .if2 .left, d .before .before .before .loop .inv .1, passed (d .is-digit .ensures) (c .before .if1 .left))
+    let fewer : d .before .before .before .loop .k < 10 = omega arith in
+    (fewer, d .before .before .before .loop .inv .1, passed (d .is-digit .ensures) (c .before .if1 .left))
 
 add-k : tie.Need-add-k Inv-loop μ-loop
 add-k c = search needs
@@ -59,7 +61,8 @@ loop-again : tie.Need-loop-again Inv-loop μ-loop
 loop-again c =
     let d = c .before .before .before in
     let l = d .before .before .before in
-    (omega arith, rw add-one (c .with-digit .ensures .1), rw (c .with-digit .ensures .0) (number-digit _ _ _ _ _ (l .loop .inv .2) (d .before .before .loop-test .taken) (passed (d .is-digit .ensures) (c .before .before .if1 .left)) (c .before .if2 .left)))
+    let fewer : l .loop .k < 10 = omega arith in
+    (omega arith, rw add-one (c .with-digit .ensures .1), rw (c .with-digit .ensures .0) (number-digit _ _ _ _ _ (l .loop .inv .2) (d .before .before .loop-test .taken) (passed (d .is-digit .ensures) (c .before .before .if1 .left)) fewer))
 
 number-of-requires-2 : tie.Need-number-of-requires-2 Inv-loop μ-loop
 number-of-requires-2 c κs = search needs
