@@ -24,7 +24,7 @@ same-length : tie.Need-same-length Inv-loop μ-loop
 same-length c = search needs
 
 returns : tie.Need-returns Inv-loop μ-loop
-returns c = let l = c .before .before .loop in sym (full (l .out) _ (l .to) (c .if1 .taken) (l .inv .0)) ∙ l .inv .2
+returns c = let l = c .before .before .loop in sym (full (l .out) _ (l .to) (omega arith) (l .inv .0)) ∙ l .inv .2
 
 shared-slice-read-out : tie.Need-shared-slice-read-out Inv-loop μ-loop
 shared-slice-read-out c = search needs

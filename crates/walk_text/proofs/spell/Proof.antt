@@ -25,7 +25,7 @@ element-write-text : tie.Need-element-write-text Inv-loop μ-loop
 element-write-text c = search needs
 
 sub-i : tie.Need-sub-i Inv-loop μ-loop
-sub-i c = let l = c .before .before .loop in several (l .rest) (l .i) (l .inv .2) (c .before .loop-test .taken)
+sub-i c = let l = c .before .before .loop in several (l .rest) (l .i) (l .inv .2) (omega arith)
 
 loop-less : tie.Need-loop-less Inv-loop μ-loop
 loop-less c = search needs
@@ -33,7 +33,7 @@ loop-less c = search needs
 loop-again : tie.Need-loop-again Inv-loop μ-loop
 loop-again c =
     let l = c .before .before .loop in
-    let large = c .before .loop-test .taken in
+    let large : 10 ≤ l .rest = omega arith in
     let pos = several (l .rest) (l .i) (l .inv .2) large in
     (omega arith, length-set (l .text) (l .i) _ ∙ l .inv .1, fewer (l .rest) (l .i) pos (l .inv .2), more-digits (l .text) (l .rest) (l .i) _ _ pos (omega arith) large (c .digit .ensures) (l .inv .3))
 
