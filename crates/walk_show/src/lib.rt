@@ -1,6 +1,5 @@
 // What the lines of a walk print. docs/walk.md has every spelling.
-ghost use mathlib.Core.Path.{_≡_};
-ghost use Prim.Native.Nat.{ℕ, _+_, _≤_, _<_};
+ghost use Prim.Native.Nat.{_≤_, _<_};
 ghost use lib.ListN.{length};
 use kinds::ClauseActivity;
 use kinds::Place;

@@ -1,12 +1,12 @@
 -- Text laid on a page, byte by byte and piece by piece. Assumes nothing.
 use mathlib.Core.Path.{_≡_, refl, sym, ap, ap₂, _∙_}
 use mathlib.Core.List.{List, [], _∷_, _++_}
-use Prim.Native.Nat.{ℕ, zero, suc, _+_, _≤_, _<_, min}
+use Prim.Native.Nat.{ℕ, suc, _+_, _≤_, _<_, min}
 use native.Mathlib.Decide.{decLt}
 use native.Mathlib.Omega.{arith}
 use native.Mathlib.Numerals.{add-one}
-use native.Mathlib.Nat.{min-eq-left, min-eq-right}
-use lib.ListN.{length, getD, set, drop, length-set, length-append, length-drop, drop-of-length-le}
+use native.Mathlib.Nat.{min-eq-right}
+use lib.ListN.{length, getD, set, drop, length-set, length-append, drop-of-length-le}
 use lib.Seq.{sets, set-out, length-sets, drop-cons}
 use Rattle.walk_text.specs.Page.{Page, page, written}
 

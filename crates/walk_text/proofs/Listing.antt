@@ -1,14 +1,14 @@
 -- A list, number by number. Assumes nothing.
-use mathlib.Core.Path.{_≡_, refl, sym, ap, ap₂, _∙_}
+use mathlib.Core.Path.{_≡_, sym, ap, _∙_}
 use mathlib.Core.List.{List, [], _∷_, _++_}
-use Prim.Native.Nat.{ℕ, zero, suc, _+_, _≤_, _<_, min}
+use Prim.Native.Nat.{ℕ, _+_, _≤_, _<_, min}
 use native.Mathlib.Omega.{arith}
 use native.Mathlib.Numerals.{add-one}
 use lib.ListN.{length, getD, drop, drop-of-length-le}
 use lib.Seq.{drop-cons}
 use Rattle.walk_text.specs.Page.{Page, page, written}
 use Rattle.walk_text.specs.Numbers.{decimal, further, commas}
-use Rattle.walk_text.proofs.Laying.{begun, behind}
+use Rattle.walk_text.proofs.Laying.{behind}
 
 further-next : (list : List ℕ) (i : ℕ) → i < length list → further (drop i list) ≡ 44 ∷ (decimal (getD list i 0) ++ further (drop (i + 1) list))
 unfolding further

@@ -1,7 +1,7 @@
 // Text, numbers and lists written to a lent page, never beyond its end.
 ghost use mathlib.Core.Path.{_≡_};
-ghost use mathlib.Core.List.{List, _∷_};
-ghost use Prim.Native.Nat.{ℕ, _+_, _%_, _≤_, _<_, min};
+ghost use mathlib.Core.List.{_∷_};
+ghost use Prim.Native.Nat.{_+_, _%_, _<_, min};
 ghost use lib.ListN.{length, drop};
 ghost use Rattle.walk_text.specs.Page.{page, written};
 ghost use Rattle.walk_text.specs.Numbers.{decimal, commas};

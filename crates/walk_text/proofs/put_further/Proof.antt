@@ -1,5 +1,4 @@
 use borrow.Author.Needs.{needs}
-use native.Mathlib.Omega.{arith}
 use Rattle.walk_text.proofs.Listing.{comma}
 use Rattle.walk_text.proofs.put_further.Statement.{statement}
 use Rattle.walk_text.proofs.put_further.Tie as tie

@@ -1,8 +1,8 @@
 use borrow.Author.Needs.{needs}
 use native.Mathlib.Omega.{arith}
-use mathlib.Core.Path.{_≡_, refl, sym, _∙_}
+use mathlib.Core.Path.{_≡_, sym, _∙_}
 use mathlib.Core.List.{_++_}
-use Prim.Native.Nat.{ℕ, suc, _+_, _≤_, _<_, _^_}
+use Prim.Native.Nat.{suc, _+_, _≤_, _<_, _^_}
 use lib.ListN.{length, drop, length-set}
 use Rattle.walk_text.specs.Numbers.{spelled, decimal}
 use Rattle.walk_text.proofs.Spelling.{all-digits, more-digits, first-digit, fewer, several}
