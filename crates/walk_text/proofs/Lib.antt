@@ -1,0 +1,3 @@
+pub mod Laying
+pub mod Spelling
+pub mod Listing
