@@ -29,12 +29,12 @@ pub fn long(
     let from = walk_kinds::least(2, to);
     let reply = db::add_clause(
         state,
-        &mut words[..words_lent],
-        &mut clauses[..clauses_lent],
-        &mut irred[..irred_lent],
-        &mut core[..core_lent],
-        &mut mid[..mid_lent],
-        &mut local[..local_lent],
+        &mut words[0..words_lent],
+        &mut clauses[0..clauses_lent],
+        &mut irred[0..irred_lent],
+        &mut core[0..core_lent],
+        &mut mid[0..mid_lent],
+        &mut local[0..local_lent],
         tier as usize,
         glue as usize,
         &numbers[from..to],
@@ -64,12 +64,12 @@ pub fn tier(
     let local_lent = walk_kinds::least(rooms.local, local.len());
     let reply = db::set_clause_tier(
         state,
-        &mut words[..words_lent],
-        &mut clauses[..clauses_lent],
-        &mut irred[..irred_lent],
-        &mut core[..core_lent],
-        &mut mid[..mid_lent],
-        &mut local[..local_lent],
+        &mut words[0..words_lent],
+        &mut clauses[0..clauses_lent],
+        &mut irred[0..irred_lent],
+        &mut core[0..core_lent],
+        &mut mid[0..mid_lent],
+        &mut local[0..local_lent],
         cref,
         tier as usize,
     );
@@ -100,13 +100,13 @@ pub fn bump(
     let levels_lent = walk_kinds::least(vars, levels.len());
     let reply = activity_calls::bump_clause(
         state,
-        &mut words[..words_lent],
-        &mut clauses[..clauses_lent],
-        &mut irred[..irred_lent],
-        &mut core[..core_lent],
-        &mut mid[..mid_lent],
-        &mut local[..local_lent],
-        &levels[..levels_lent],
+        &mut words[0..words_lent],
+        &mut clauses[0..clauses_lent],
+        &mut irred[0..irred_lent],
+        &mut core[0..core_lent],
+        &mut mid[0..mid_lent],
+        &mut local[0..local_lent],
+        &levels[0..levels_lent],
         cref,
     );
     walk_replies::plain(walk, reply)
@@ -132,12 +132,12 @@ pub fn decay(
     let local_lent = walk_kinds::least(rooms.local, local.len());
     let reply = activity_calls::decay(
         state,
-        &mut words[..words_lent],
-        &mut clauses[..clauses_lent],
-        &irred[..irred_lent],
-        &core[..core_lent],
-        &mid[..mid_lent],
-        &local[..local_lent],
+        &mut words[0..words_lent],
+        &mut clauses[0..clauses_lent],
+        &irred[0..irred_lent],
+        &core[0..core_lent],
+        &mid[0..mid_lent],
+        &local[0..local_lent],
     );
     walk_replies::plain(walk, reply)
 }
@@ -162,12 +162,12 @@ pub fn mids(
     let local_lent = walk_kinds::least(rooms.local, local.len());
     let reply = reduce_calls::reduce_mids(
         state,
-        &mut words[..words_lent],
-        &mut clauses[..clauses_lent],
-        &mut irred[..irred_lent],
-        &mut core[..core_lent],
-        &mut mid[..mid_lent],
-        &mut local[..local_lent],
+        &mut words[0..words_lent],
+        &mut clauses[0..clauses_lent],
+        &mut irred[0..irred_lent],
+        &mut core[0..core_lent],
+        &mut mid[0..mid_lent],
+        &mut local[0..local_lent],
     );
     walk_replies::plain(walk, reply)
 }
@@ -188,9 +188,9 @@ pub fn binary(
     let to = walk_kinds::least(n, numbers.len());
     let reply = binary_calls::add_binary_clause(
         state,
-        &mut rows[..rows_lent],
-        &mut counts[..counts_lent],
-        &numbers[..to],
+        &mut rows[0..rows_lent],
+        &mut counts[0..counts_lent],
+        &numbers[0..to],
     );
     walk_replies::plain(walk, reply)
 }
@@ -205,7 +205,7 @@ pub fn empty(
     let rec_lent = walk_kinds::least(rooms.rec, rec.len());
     let reply = reading_calls::empty_record(
         state,
-        &mut rec[..rec_lent],
+        &mut rec[0..rec_lent],
     );
     walk_replies::plain(walk, reply)
 }
@@ -223,8 +223,8 @@ pub fn assess(
     let to = walk_kinds::least(n, numbers.len());
     let reply = reading_calls::assess_learned_clause(
         state.vars,
-        &levels[..levels_lent],
-        &numbers[..to],
+        &levels[0..levels_lent],
+        &numbers[0..to],
     );
     walk_replies::assessed(walk, reply)
 }

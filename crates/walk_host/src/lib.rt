@@ -211,7 +211,7 @@ pub fn undo(walk: Walk, values: &mut [u8], trail: &mut [u32]) -> Told {
     }
     let last = assigned - 1;
     let x = index_of(trail[last]);
-    if x >= walk.state.vars {
+    if x >= walk_kinds::lent_vars(walk.state.vars) {
         return gives(walk, 4);
     }
     if x >= values.len() {
@@ -224,8 +224,12 @@ pub fn undo(walk: Walk, values: &mut [u8], trail: &mut [u32]) -> Told {
 
 // ---- `op=poke`: "writes a number into a lent buffer, or a state field, as it stands; a place outside, or a value too large for it: 4"
 
-pub fn poke_word(walk: Walk, words: &mut [u32], at: u32, value: u32) -> Told {
+// A word of a buffer that is lent up to a room.
+pub fn poke_word(walk: Walk, words: &mut [u32], room: usize, at: u32, value: u32) -> Told {
     let place = at as usize;
+    if place >= room {
+        return gives(walk, 4);
+    }
     if place >= words.len() {
         return gives(walk, 4);
     }
@@ -233,8 +237,11 @@ pub fn poke_word(walk: Walk, words: &mut [u32], at: u32, value: u32) -> Told {
     gives(walk, 0)
 }
 
-pub fn poke_byte(walk: Walk, bytes: &mut [u8], at: u32, value: u32) -> Told {
+pub fn poke_byte(walk: Walk, bytes: &mut [u8], room: usize, at: u32, value: u32) -> Told {
     let place = at as usize;
+    if place >= room {
+        return gives(walk, 4);
+    }
     if place >= bytes.len() {
         return gives(walk, 4);
     }
