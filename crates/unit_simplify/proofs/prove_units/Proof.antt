@@ -53,14 +53,12 @@ returns c =
 
 refuse-prove-units-requires : tie.Need-refuse-prove-units-requires
 refuse-prove-units-requires c κs =
-    let s = c .before .before .before .before .before .before .before .before .before .before .before .before .before .before .before .before .before .before in
     let j = c .before .before .before .before .before .judge-list-record-host in
     sym (j .ensures) ∙ c .before .before .before .before .if1 .left
 
 refusal-of-requires-2 : tie.Need-refusal-of-requires-2
 refusal-of-requires-2 c κs =
     let s = c .before .before .before .before .before .before .before .before .before .before .before .before .before .before .before .before .before .before .before .before in
-    let j = c .before .before .before .before .before .before .before .judge-list-record-host in
     own-number proveUnits units wordsRecordHost lends (held s) (c .before .refuse-prove-units .result) (c .before .refuse-prove-units .ensures) (c .if2 .taken)
 
 same-length-5 : tie.Need-same-length-5
@@ -83,7 +81,6 @@ returns-2 c =
 
 prove-units-requires : tie.Need-prove-units-requires
 prove-units-requires c κs =
-    let s = c .before .before .before .before .before .before .before .before .before .before .before .before .before .before .before .before .before .before .before .before .before .before .before .before in
     let j = c .before .before .before .before .before .before .before .before .before .before .before .judge-list-record-host in
     (sym (j .ensures) ∙ c .before .before .before .before .before .before .before .before .before .before .if1 .left, sym (c .before .before .before .before .before .refuse-prove-units .ensures) ∙ c .before .before .before .before .if2 .left)
 
