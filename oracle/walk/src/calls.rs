@@ -9,7 +9,7 @@ use varisat::unit_simplify::{prove_units, unit_simplify};
 use varisat_formula::Lit;
 
 use crate::judge::{clause_given, judge, vars_in_range, Parts, NOTHING};
-use crate::lent::{lent_vars, Lent, CLAUSES};
+use crate::lent::{lent_vars, Lent};
 use crate::mirrors::{self, clause_ref, offset};
 use crate::source::{codes, finish, lits, load, write_back, Recorder};
 
@@ -311,7 +311,7 @@ pub fn simplify(lent: &mut Lent) -> Answer<bool> {
 }
 
 /// "a live long or a binary clause has no true literal and fewer than two unassigned"
-fn some_clause_lacks(lent: &Lent) -> bool {
+pub fn some_clause_lacks(lent: &Lent) -> bool {
     let lacks = |clause: &[u32]| {
         !clause.iter().any(|&code| lent.is_true(code))
             && clause.iter().filter(|&&code| lent.is_unassigned(code)).count() < 2
@@ -371,9 +371,4 @@ pub fn view(slice: &[u32]) -> View {
     let header = mirrors::header([slice[0], slice[1], slice[2]]);
     let literals = slice[3..].iter().copied().take(header.len()).collect();
     View { header, literals }
-}
-
-/// Whether the clause at `at` is in the clause list, deleted or not.
-pub fn listed(lent: &Lent, at: u32) -> bool {
-    lent.list(CLAUSES).contains(&at)
 }

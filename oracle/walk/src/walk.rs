@@ -125,6 +125,8 @@ fn quiet_bit(name: &str, bit: bool) -> Said {
 pub struct Walk {
     pub lent: Lent,
     pub answers: bool,
+    /// The last line's op and answer.
+    pub last: (&'static str, u32),
 }
 
 impl Walk {
@@ -135,9 +137,12 @@ impl Walk {
     /// Carries out one line and returns what it prints.
     pub fn line(&mut self, line: &[u8]) -> String {
         let Some((name, values)) = read(line) else {
+            self.last = ("none", 99);
             return "op=none answer=99\n".to_string();
         };
-        match self.carry_out(name, &values) {
+        let said = self.carry_out(name, &values);
+        self.last = (name, *said.as_ref().err().unwrap_or(&0));
+        match said {
             Err(answer) => format!("op={} answer={}\n", name, answer),
             Ok(Said::Prints(text)) => text,
             Ok(Said::Quiet(more)) if self.answers => format!("op={} answer=0{}\n", name, more),
