@@ -753,6 +753,293 @@ impl Writer {
         }
     }
 
+    /// Pokes and remembers what stood there.
+    fn change(&mut self, mending: &mut Vec<(usize, usize, u32)>, buffer: usize, at: usize, value: u32) {
+        let old = self.standing(buffer, at);
+        if self.poke(buffer, at, value) == 0 {
+            mending.push((buffer, at, old));
+        }
+    }
+
+    /// Calls that between them are lent everything.
+    fn probe(&mut self) {
+        for _ in 0..self.random.within(2, 4) {
+            let at = self.reference();
+            let literal = self.random.below(2 * self.vars());
+            let line = match self.random.below(12) {
+                0 => "op=collect".into(),
+                1 => "op=decay".into(),
+                2 => "op=mids".into(),
+                3 => "op=locals".into(),
+                4 => "op=units".into(),
+                5 | 6 => "op=simplify".into(),
+                7 => format!("op=bump ref={}", at),
+                8 => format!("op=delete ref={}", at),
+                9 => format!("op=literals ref={}", at),
+                10 => format!("op=implied lit={}", literal),
+                _ => "op=empty".into(),
+            };
+            let copy = self.walk.lent.clone();
+            // Called on a copy first: what it would change stays, so that the damage can be mended.
+            let mut tried = Walk::new();
+            tried.lent = copy;
+            tried.line(line.as_bytes());
+            if tried.lent == self.walk.lent || self.random.percent(15) {
+                self.say(line);
+            } else {
+                self.say(format!("op=literals ref={}", at));
+                self.say(format!("op=implied lit={}", literal));
+            }
+        }
+    }
+
+    /// One condition just broken, or just kept, while all others hold; mended afterwards.
+    fn edge(&mut self) {
+        let mut mending = vec![];
+        let live = self.live();
+        let state = self.lent().state.clone();
+        let vars = self.vars();
+        let held: usize = live.iter().map(|&at| self.literals(at).len() + 3).sum();
+        let trail = self.lent().used_trail().to_vec();
+        let mut level_back = None;
+        match self.random.below(16) {
+            0 => {
+                let room = self.lent().row_room() as u32;
+                let code = self.random.below(2 * vars);
+                let more = self.random.below(2) as u32;
+                self.change(&mut mending, 7, code, room + more);
+            }
+            1 => {
+                let bits = self
+                    .random
+                    .pick(&[
+                        BELOW_LIMIT,
+                        BELOW_LIMIT + 1,
+                        BELOW_LIMIT + 2,
+                        2_147_483_648,
+                        2_139_095_040,
+                        2_143_289_344,
+                        4_286_578_688,
+                        3_212_836_864,
+                        0,
+                        1,
+                    ])
+                    .unwrap();
+                self.change(&mut mending, 14, 14, bits);
+            }
+            2 => {
+                let bits = self
+                    .random
+                    .pick(&[
+                        1_065_353_216,
+                        1_065_353_217,
+                        1_098_907_647,
+                        1_098_907_648,
+                        2_143_289_344,
+                        3_221_225_472,
+                        0,
+                    ])
+                    .unwrap();
+                self.change(&mut mending, 14, 15, bits);
+            }
+            // The last clause ends one word behind the used length.
+            3 => {
+                if state.words > held && state.words > 0 {
+                    self.change(&mut mending, 14, 12, 0);
+                    self.change(&mut mending, 14, 1, state.words as u32 - 1);
+                }
+            }
+            4 => {
+                if let Some(at) = self.random.pick(&live) {
+                    let bit = 1u32 << self.random.within(11, 31);
+                    let old = self.standing(0, at as usize + 1);
+                    self.change(&mut mending, 0, at as usize + 1, old | bit);
+                }
+            }
+            5 => {
+                let more = self.random.below(2);
+                let garbage = state.words.saturating_sub(held) + more;
+                self.change(&mut mending, 14, 12, garbage as u32);
+            }
+            // A tier entry around a live clause's first or last word.
+            6 | 7 => {
+                let list = self.random.within(1, 4);
+                let used = state.lists[list];
+                let Some(at) = self.random.pick(&live) else {
+                    return;
+                };
+                if used >= self.lent().rooms.lists[list] {
+                    return;
+                }
+                let end = at as usize + 3 + self.literals(at).len();
+                if self.random.percent(60) && end + 2 <= state.words {
+                    let next = self.standing(0, end);
+                    if !live.contains(&(end as u32)) || self.random.percent(50) {
+                        self.change(&mut mending, 0, end, next | 4);
+                    }
+                    self.change(&mut mending, 1 + list, used, end as u32 - 1);
+                } else if at > 0 {
+                    self.change(&mut mending, 0, at as usize, 4);
+                    self.change(&mut mending, 1 + list, used, at - 1);
+                }
+                self.change(&mut mending, 14, 2 + list, used as u32 + 1);
+            }
+            // Rows: a pair of one variable; or two pairs, each once too often on one side.
+            8 | 9 => {
+                let room = self.lent().row_room();
+                let mut push = |writer: &mut Writer, code: u32, lit: u32| {
+                    let count = writer.lent().row_counts[code as usize] as usize;
+                    if count < room {
+                        let place = code as usize * room + count;
+                        writer.change(&mut mending, 6, place, lit);
+                        writer.change(&mut mending, 7, code as usize, count as u32 + 1);
+                    }
+                };
+                let a = self.random.below(2 * vars) as u32;
+                let b = self.random.below(2 * vars) as u32;
+                match self.random.below(4) {
+                    0 => {
+                        push(self, a ^ 1, a);
+                        push(self, a ^ 1, a);
+                    }
+                    1 => {
+                        push(self, a ^ 1, a ^ 1);
+                        push(self, a, a);
+                    }
+                    2 => {
+                        let filled: Vec<u32> = (0..2 * vars as u32)
+                            .filter(|&code| !self.lent().row(code as usize).is_empty())
+                            .collect();
+                        for _ in 0..2 {
+                            if let Some(code) = self.random.pick(&filled) {
+                                let row = self.lent().row(code as usize).to_vec();
+                                let again = self.random.pick(&row).unwrap_or(0);
+                                push(self, code, again);
+                            }
+                        }
+                    }
+                    _ => {
+                        push(self, a ^ 1, b);
+                        push(self, b ^ 1, a);
+                    }
+                }
+                self.change(&mut mending, 14, 13, state.binary as u32 + 1);
+            }
+            10 => {
+                let more = self.random.pick(&[1u32, u32::MAX, 2]).unwrap();
+                let binary = (state.binary as u32).wrapping_add(more);
+                self.change(&mut mending, 14, 13, binary);
+            }
+            11 => {
+                let level = vars as u32 + self.random.below(2) as u32;
+                level_back = Some(self.lent().level);
+                self.say(format!("op=level level={}", level));
+            }
+            // A variable twice on the trail.
+            12 => {
+                if let Some(code) = self.random.pick(&trail) {
+                    if trail.len() < TRAIL {
+                        self.change(&mut mending, 13, trail.len(), code);
+                        self.change(&mut mending, 14, 16, trail.len() as u32 + 1);
+                    }
+                }
+            }
+            // A trail literal's reason: another literal, or a clause that does not fit.
+            13 => {
+                if let Some(code) = self.random.pick(&trail) {
+                    let var = code as usize / 2;
+                    let other = self.random.below(2 * vars) as u32;
+                    let value = self.random.pick(&[other, other, code, code ^ 1]).unwrap();
+                    self.change(&mut mending, 10, var, 2);
+                    self.change(&mut mending, 11, var, value);
+                }
+            }
+            14 => {
+                let mut able = vec![];
+                for &code in &trail {
+                    let var = code as usize / 2;
+                    if self.lent().kinds.get(var) == Some(&3) {
+                        able.push(self.lent().reasons[var]);
+                    }
+                }
+                let at = self.random.pick(&able).or(self.random.pick(&live));
+                if let (Some(at), Some(code)) = (at, self.random.pick(&trail)) {
+                    let var = code as usize / 2;
+                    self.change(&mut mending, 10, var, 3);
+                    self.change(&mut mending, 11, var, at);
+                }
+            }
+            // A reason that is listed, but deleted.
+            _ => {
+                let mut able = vec![];
+                for &code in &trail {
+                    let var = code as usize / 2;
+                    if self.lent().kinds.get(var) == Some(&3) {
+                        able.push(self.lent().reasons[var]);
+                    }
+                }
+                if let Some(at) = self.random.pick(&able) {
+                    if (at as usize) < WORDS - 3 {
+                        let word = self.standing(0, at as usize + 1);
+                        let tier = (word & 3) as usize;
+                        let count = state.counts[tier] as u32;
+                        self.change(&mut mending, 0, at as usize + 1, word | 4);
+                        self.change(&mut mending, 14, 8 + tier, count.wrapping_sub(1));
+                    }
+                }
+            }
+        }
+        self.probe();
+        for (buffer, at, old) in mending.into_iter().rev() {
+            self.poke(buffer, at, old);
+        }
+        if let Some(level) = level_back {
+            self.say(format!("op=level level={}", level));
+        }
+    }
+
+    /// A clause whose variables have exactly so many levels as a tier's edge asks for.
+    fn glue_edge(&mut self) {
+        let many = self.random.pick(&[1, 2, 3, 4, 6, 7, 8]).unwrap();
+        let live = self.live();
+        let long: Vec<u32> = live
+            .into_iter()
+            .filter(|&at| self.literals(at).len() >= many && self.lent().tier(at) != 0)
+            .collect();
+        let literals = match self.random.pick(&long) {
+            Some(at) if self.random.percent(60) => {
+                let old = self.standing(0, at as usize + 1);
+                let glue = self.random.pick(&[63, many, many + 1, many - 1]).unwrap() as u32;
+                self.poke(0, at as usize + 1, old & 1_039 | glue << 4);
+                self.literals(at)
+            }
+            _ => {
+                let most = self.vars().min(many + 3);
+                self.clause(many.min(most), most)
+            }
+        };
+        if !literals.iter().all(|&code| self.literal_in_range(code)) {
+            return;
+        }
+        let current = self.lent().level as usize;
+        for (place, &code) in literals.iter().enumerate() {
+            let var = code as usize / 2;
+            let level = place % many;
+            if level <= self.vars() && (self.lent().values[var] == 2 || level <= current) {
+                self.say(format!("op=depth var={} level={}", var, level));
+            }
+        }
+        self.say(format!("op=assess lits={}", commas(&literals)));
+        if let Some(at) = self.random.pick(&long) {
+            self.say(format!("op=bump ref={}", at));
+        }
+        for at in long {
+            if self.literals(at) == literals {
+                self.say(format!("op=bump ref={}", at));
+            }
+        }
+    }
+
     /// Pokes that leave a passing store passing.
     fn odd_but_passing(&mut self) {
         let live = self.live();
@@ -1098,8 +1385,10 @@ impl Writer {
     fn step(&mut self) {
         let chance = self.random.below(100);
         match self.kind {
-            Kind::Damaged if chance < 35 => return self.damage(),
-            Kind::Floats if chance < 30 => return self.floats(),
+            Kind::Damaged if chance < 18 => return self.damage(),
+            Kind::Damaged if chance < 45 => return self.edge(),
+            Kind::Floats if chance < 26 => return self.floats(),
+            Kind::Floats if chance < 36 => return self.glue_edge(),
             Kind::Spelling if chance < 60 => return self.spelling(),
             Kind::Tight if chance < 10 => return self.fitting_room(),
             Kind::Tight if chance < 12 => return self.full_room(),
@@ -1117,8 +1406,10 @@ impl Writer {
                 self.look();
             }
             65..=90 => self.host(),
-            91..=95 => self.odd_but_passing(),
+            91..=94 => self.odd_but_passing(),
+            95 => self.glue_edge(),
             96 => self.floats(),
+            97 if self.random.percent(50) => self.edge(),
             97 => self.damage(),
             98 => self.spelling(),
             _ => {
