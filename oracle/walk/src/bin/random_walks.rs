@@ -802,7 +802,7 @@ impl Writer {
         let held: usize = live.iter().map(|&at| self.literals(at).len() + 3).sum();
         let trail = self.lent().used_trail().to_vec();
         let mut level_back = None;
-        match self.random.below(16) {
+        match self.random.below(26) {
             0 => {
                 let room = self.lent().row_room() as u32;
                 let code = self.random.below(2 * vars);
@@ -967,6 +967,94 @@ impl Writer {
                     let var = code as usize / 2;
                     self.change(&mut mending, 10, var, 3);
                     self.change(&mut mending, 11, var, at);
+                }
+            }
+            // Mark, glue or length of a live clause.
+            15 | 16 => {
+                if let Some(at) = self.random.pick(&live) {
+                    let at = at as usize;
+                    let word = self.standing(0, at + 1);
+                    match self.random.below(4) {
+                        0 => self.change(&mut mending, 0, at + 1, word | 8),
+                        1 => self.change(&mut mending, 0, at + 1, word & 1_039 | 16),
+                        2 => self.change(&mut mending, 0, at + 2, 2),
+                        _ => {
+                            let length = self.standing(0, at + 2);
+                            self.change(&mut mending, 0, at + 2, length - 1);
+                        }
+                    }
+                }
+            }
+            17 => {
+                if let Some(code) = self.random.pick(&trail) {
+                    let kind = self.random.pick(&[0, 4, 5, 1]).unwrap();
+                    self.change(&mut mending, 10, code as usize / 2, kind);
+                }
+            }
+            18 => {
+                let var = self.random.below(vars);
+                let free = self.lent().values[var] == 2;
+                let value = self.random.pick(&[0, 1, 2, 3, 255]).unwrap();
+                self.change(&mut mending, 9, var, value);
+                if free {
+                    let kind = self.random.pick(&[4, 4, 0, 3]).unwrap();
+                    self.change(&mut mending, 10, var, kind);
+                }
+            }
+            19 => {
+                let var = self.random.below(vars);
+                let kind = self.random.pick(&[4, 5, 255]).unwrap();
+                self.change(&mut mending, 10, var, kind);
+            }
+            // A literal of a long reason that is not false.
+            20 | 21 => {
+                let mut able = vec![];
+                for &code in &trail {
+                    let var = code as usize / 2;
+                    if self.lent().kinds.get(var) == Some(&3) {
+                        able.push(self.lent().reasons[var]);
+                    }
+                }
+                let free = self.unassigned();
+                if let Some(at) = self.random.pick(&able) {
+                    let literals = self.literals(at);
+                    let inside = |var: u32| literals.iter().any(|&code| code / 2 == var);
+                    let others: Vec<u32> = free.into_iter().filter(|&var| !inside(var)).collect();
+                    if let (Some(var), true) = (self.random.pick(&others), literals.len() > 2) {
+                        let place = at as usize + 3 + self.random.within(1, literals.len() - 1);
+                        self.change(&mut mending, 0, place, 2 * var);
+                    }
+                }
+            }
+            // Used lengths at their rooms and above.
+            22 => {
+                let more = self.random.below(2);
+                let field = self.random.within(1, 7);
+                let room = match field {
+                    1 => self.lent().rooms.words,
+                    7 => self.lent().rooms.record,
+                    _ => self.lent().rooms.lists[field - 2],
+                };
+                self.change(&mut mending, 14, field, (room + more) as u32);
+            }
+            23 => {
+                let number = self
+                    .random
+                    .pick(&[0, 1_024, 1_025, 65_536, 65_537, vars as u32 - 1, vars as u32 + 1])
+                    .unwrap();
+                self.change(&mut mending, 14, 0, number);
+            }
+            // A tier entry two words before the end, its word 1 the last word.
+            24 => {
+                let list = self.random.within(1, 4);
+                let used = state.lists[list];
+                if used < self.lent().rooms.lists[list] && state.words > 3 {
+                    let short = self.random.within(2, 3);
+                    let word = state.words - short + 1;
+                    let old = self.standing(0, word);
+                    self.change(&mut mending, 0, word, old | 4);
+                    self.change(&mut mending, 1 + list, used, (state.words - short) as u32);
+                    self.change(&mut mending, 14, 2 + list, used as u32 + 1);
                 }
             }
             // A reason that is listed, but deleted.
