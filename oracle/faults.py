@@ -1,13 +1,16 @@
 #!/usr/bin/env python3
 """Tries whether the random walks would find a fault.
 
-    python3 faults.py [COUNT]
+    python3 faults.py [COUNT] [--choose FILE]
+    python3 faults.py --dir DIR
 
 Each edit below puts one fault into paper_walk.py; the walks of seeds 0 to COUNT - 1 (default 400)
-are run on it until one prints other bytes than oracle-walk. Printed: how many walks that took, or
-that the fault was not found. Edits that change nothing are not listed: a row entry out of range has no
+are run on it until one prints other bytes than oracle-walk. Printed: the seed that found it, or that
+the fault was not found. With --choose the seeds that were needed are written to FILE, the first
+twelve always among them. With --dir the walks are the files of a fixed list. Edits that change nothing are not listed: a row entry out of range has no
 counterpart, and different variables in range are at most V anyway.
 """
+import argparse
 import io
 import os
 import subprocess
@@ -120,18 +123,32 @@ FAULTS = [
 
 
 def main():
-    count = int(sys.argv[1]) if len(sys.argv) > 1 else 400
+    parser = argparse.ArgumentParser()
+    parser.add_argument('count', type=int, nargs='?', default=400)
+    parser.add_argument('--choose')
+    parser.add_argument('--dir')
+    options = parser.parse_args()
     with open(os.path.join(HERE, 'paper_walk.py')) as file:
         paper = file.read()
-    walks = []
+    walks = {}
+    if options.dir:
+        for name in sorted(os.listdir(options.dir)):
+            if name.endswith('.stdin'):
+                with open(os.path.join(options.dir, name), 'rb') as file:
+                    given = file.read()
+                with open(os.path.join(options.dir, name[:-5] + 'stdout')) as file:
+                    walks[name] = given, file.read()
+        order = list(walks)
+    else:
+        order = list(range(options.count))
 
     def walk(seed):
-        while len(walks) <= seed:
-            given = subprocess.run([os.path.join(BIN, 'random_walks'), str(len(walks))],
+        if seed not in walks:
+            given = subprocess.run([os.path.join(BIN, 'random_walks'), str(seed)],
                                    capture_output=True, check=True).stdout
             wanted = subprocess.run([os.path.join(BIN, 'oracle-walk')], input=given,
                                     capture_output=True, check=True).stdout
-            walks.append((given, wanted.decode()))
+            walks[seed] = given, wanted.decode()
         return walks[seed]
 
     def prints(source, given):
@@ -149,21 +166,28 @@ def main():
             sys.stdin, sys.stdout = kept
 
     missed = 0
+    chosen = list(range(12))
     for old, new in FAULTS:
         if paper.count(old) != 1:
             print('NOT ONE PLACE (%d) %r' % (paper.count(old), old))
             missed += 1
             continue
         source = compile(paper.replace(old, new), 'fault', 'exec')
-        for seed in range(count):
+        first = [] if options.dir else chosen
+        for seed in first + [seed for seed in order if seed not in first]:
             given, wanted = walk(seed)
             if prints(source, given) != wanted:
-                print('%4d walks  %r -> %r' % (seed + 1, old[:70], new[:70]), flush=True)
+                print('%s  %r -> %r' % (seed, old[:70], new[:70]), flush=True)
+                if seed not in chosen:
+                    chosen.append(seed)
                 break
         else:
             missed += 1
             print('NOT FOUND   %r -> %r' % (old[:70], new[:70]), flush=True)
     print('%d of %d faults found' % (len(FAULTS) - missed, len(FAULTS)))
+    if options.choose:
+        with open(options.choose, 'w') as file:
+            file.write(''.join('%d\n' % seed for seed in chosen))
     return 1 if missed else 0
 
 
