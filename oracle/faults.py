@@ -178,7 +178,7 @@ def main():
             given, wanted = walk(seed)
             if prints(source, given) != wanted:
                 print('%s  %r -> %r' % (seed, old[:70], new[:70]), flush=True)
-                if seed not in chosen:
+                if seed not in chosen and len(given) <= 65536:
                     chosen.append(seed)
                 break
         else:

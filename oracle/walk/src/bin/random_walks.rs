@@ -6,6 +6,7 @@
 //!
 //! A walk is written while it is carried out, so that calls can be chosen that will be accepted.
 use std::collections::BTreeMap;
+use std::io::Write;
 
 use oracle_walk::lent::{Lent, CLAUSES, LIST, RECORD, ROWS, TRAIL, WORDS};
 use oracle_walk::walk::{commas, Walk};
@@ -89,7 +90,9 @@ struct Writer {
     random: Random,
     kind: Kind,
     walk: Walk,
-    lines: Vec<String>,
+    lines: Vec<Vec<u8>>,
+    /// Whether the last line has its end.
+    ended: bool,
     input: usize,
     output: usize,
     tally: BTreeMap<(&'static str, u32), usize>,
@@ -104,6 +107,7 @@ impl Writer {
             kind: KINDS[(seed % KINDS.len() as u64) as usize],
             walk: Walk::new(),
             lines: vec![],
+            ended: true,
             input: 0,
             output: 0,
             tally: BTreeMap::new(),
@@ -121,9 +125,13 @@ impl Writer {
 
     /// Writes a line and carries it out; the answer.
     fn say(&mut self, line: String) -> u32 {
+        self.say_bytes(line.into_bytes())
+    }
+
+    fn say_bytes(&mut self, line: Vec<u8>) -> u32 {
         self.input += line.len() + 1;
         let before = self.changing.as_ref().map(|_| self.walk.lent.clone());
-        self.output += self.walk.line(line.as_bytes()).len();
+        self.output += self.walk.line(&line).len();
         if let (Some(changing), Some(before)) = (&mut self.changing, before) {
             if before != self.walk.lent {
                 *changing.entry(self.walk.last.0).or_default() += 1;
@@ -1407,7 +1415,35 @@ impl Writer {
                 }
             }
         }
-        self.say(String::from_utf8(bytes).unwrap());
+        if self.random.percent(4) {
+            let at = self.random.below(bytes.len() + 1);
+            let byte = self.random.pick(&[0u8, 127, 128, 255, 13, 9]).unwrap();
+            bytes.insert(at, byte);
+        }
+        self.say_bytes(bytes);
+    }
+
+    /// Lines up to and beyond the 64 KiB that are read.
+    fn beyond(&mut self) {
+        while self.input < 65_536 - 5_000 {
+            let length = self.random.within(1_000, 4_000);
+            let line = match self.random.below(3) {
+                0 => vec![b'x'; length],
+                1 => format!("op=assess lits={}", vec!["7"; length / 4].join(",")).into_bytes(),
+                _ => format!("op=assess lits={}0", "0,".repeat(length / 2)).into_bytes(),
+            };
+            self.say_bytes(line);
+        }
+        let short = self.random.below(12);
+        let fill = 65_536 - 1 - short - self.input;
+        self.say_bytes(vec![b'x'; fill]);
+        for _ in 0..3 {
+            let line = self
+                .random
+                .pick(&["op=dump", "op=tails", "op=show", "op=answers on=1", "", "op=decay"])
+                .unwrap();
+            self.say(line.into());
+        }
     }
 
     fn start(&mut self) {
@@ -1465,9 +1501,16 @@ impl Writer {
             }
             self.step();
         }
+        if self.kind == Kind::Spelling && self.random.percent(15) && self.input < 50_000 {
+            return self.beyond();
+        }
         self.say("op=dump".into());
         self.say("op=tails".into());
         self.say("op=show".into());
+        if self.kind == Kind::Spelling {
+            self.spelling();
+            self.ended = self.random.percent(50);
+        }
     }
 
     fn step(&mut self) {
@@ -1542,8 +1585,10 @@ fn main() {
     } else {
         let mut writer = Writer::new(number(0));
         writer.write();
-        for line in &writer.lines {
-            println!("{}", line);
+        let mut out = writer.lines.join(&b'\n');
+        if writer.ended {
+            out.push(b'\n');
         }
+        std::io::stdout().write_all(&out).expect("output");
     }
 }
