@@ -598,13 +598,13 @@ class Store:
 
     def tails(self):
         def behind(numbers, used, room):
-            return sum(1 for number in numbers[used:room] if number)
+            behind = numbers[used:room]
+            return len(behind) - behind.count(0)
         lists = [behind(self.lists[k], self.lens[k], self.room[1 + k]) for k in range(5)]
-        filled = set()
+        rows = behind(self.rows, 0, self.room[6])
         for code in range(self.rows_seen()):
-            start = code * self.row_room()
-            filled.update(range(start, start + len(self.row(code))))
-        rows = sum(1 for at in range(self.room[6]) if self.rows[at] and at not in filled)
+            if self.row_counts[code]:
+                rows -= behind(self.row(code), 0, ROWS)
         return ['op=tails words=%d clauses=%d irred=%d core=%d mid=%d local=%d rows=%d record=%d trail=%d'
                 % (behind(self.words, self.used, self.room[0]), *lists, rows,
                    behind(self.record, self.recorded, self.room[7]),

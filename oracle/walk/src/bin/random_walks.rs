@@ -595,7 +595,63 @@ impl Writer {
         }
     }
 
+    /// What the host may say and a store call then refuses, or what is refused at once.
+    fn host_odd(&mut self) {
+        let vars = self.vars();
+        let literal = self.random.below(2 * vars + 2);
+        let wild = self.random.next() as u32;
+        match self.random.below(8) {
+            0 | 1 => {
+                let kind = self.random.pick(&[0, 1, 2, 3, 4, 5, 255, 256, wild]).unwrap();
+                let value = self.reference();
+                let level = self.random.below(vars + 2);
+                let line = format!(
+                    "op=assign lit={} kind={} value={} level={}",
+                    literal, kind, value, level
+                );
+                if self.say(line) == 0 {
+                    self.probe();
+                    self.say("op=undo".into());
+                }
+            }
+            2 => {
+                let literal = self.random.pick(&[literal as u32, wild]).unwrap();
+                self.say(format!("op=unit lit={}", literal));
+            }
+            3 => {
+                let var = self.random.pick(&[vars as u32, wild, 1_024]).unwrap();
+                self.say(format!("op=depth var={} level=0", var));
+            }
+            4 => {
+                let old = self.lent().level;
+                self.say(format!("op=level level={}", wild));
+                self.probe();
+                self.say(format!("op=level level={}", old));
+            }
+            5 => {
+                let lists = [LIST; 5];
+                let words = WORDS + self.random.below(2);
+                let rows = self.lent().rooms.rows;
+                if words > WORDS {
+                    self.room(words, lists, rows, RECORD);
+                }
+            }
+            6 => {
+                self.say("op=answers on=0".into());
+                self.call();
+                self.say("op=answers on=1".into());
+            }
+            _ => {
+                let vars = self.random.pick(&[0, 1_025, 65_536, 65_537, wild]).unwrap();
+                self.say(format!("op=start vars={}", vars));
+            }
+        }
+    }
+
     fn host(&mut self) {
+        if self.random.percent(6) {
+            return self.host_odd();
+        }
         match self.random.below(100) {
             0..=29 => self.assign_some(),
             30..=54 => self.make_asserting(),
@@ -1086,6 +1142,9 @@ impl Writer {
             }
         }
         self.probe();
+        if self.random.percent(8) {
+            self.look();
+        }
         for (buffer, at, old) in mending.into_iter().rev() {
             self.poke(buffer, at, old);
         }
