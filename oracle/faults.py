@@ -119,6 +119,50 @@ FAULTS = [
     ('self.record[:self.recorded] = [0] * self.recorded', 'pass'),
     ('return self.tier_by_glue(glue), min(glue, 63)', 'return self.tier_by_glue(glue + 1), min(glue, 63)'),
     ('self.values[var] = 2\n\n', 'self.values[var], self.kinds[var] = 2, 0\n\n'),
+    # Starting.
+    ('self.words[:self.room[0]] = [0] * self.room[0]', 'self.words = [0] * WORDS'),
+    ('self.words[:self.room[0]] = [0] * self.room[0]', 'self.words[:self.used] = [0] * len(self.words[:self.used])'),
+    ('self.rows[:self.room[6]] = [0] * self.room[6]', 'pass'),
+    ('self.row_counts[:2 * V] = [0] * (2 * V)', 'self.row_counts[:2 * V - 1] = [0] * (2 * V - 1)'),
+    ('self.record[:self.room[7]] = [0] * self.room[7]', 'pass'),
+    ('store.values = [2] * VARS', 'store.values = [2] * store.V + store.values[store.V:]'),
+    ('store.trail, store.trailed, store.level = [0] * TRAIL, 0, 0', 'store.trailed, store.level = 0, 0'),
+    ('store.trail, store.trailed, store.level = [0] * TRAIL, 0, 0', 'store.trail, store.trailed = [0] * TRAIL, 0'),
+    # The host and pokes.
+    ('or self.values[var] != 2 or kind > 255, 4)', 'or self.values[var] < 2 or kind > 255, 4)'),
+    ('or self.values[var] != 2 or kind > 255, 4)', 'or self.values[var] != 2, 4)'),
+    ('refuse(var >= min(self.V, VARS) or', 'refuse(var > min(self.V, VARS) or'),
+    ('refuse(not 1 <= self.trailed <= TRAIL, 4)', 'refuse(not 0 <= self.trailed <= TRAIL, 4)'),
+    ('self.trail[self.trailed] = 0\n', 'pass\n'),
+    ('refuse(at >= room or buffer in (9, 10) and value > 255, 4)', 'refuse(at >= len(numbers) or buffer in (9, 10) and value > 255, 4)'),
+    ('if at in (14, 15) and is_nan(value):', 'if False:'),
+    ('refuse(any(a > b for a, b in zip(v, most)), 1)', 'pass'),
+    ('refuse(v[0] >= min(store.V, VARS), 4)', 'refuse(v[0] >= VARS, 4)'),
+    # Reading and printing.
+    ('[0-9]{1,10}', '[0-9]{1,11}'),
+    ('int(word) >= 1 << 32', 'int(word) > 1 << 32'),
+    ('if len(parts) > 1024:', 'if len(parts) >= 1024:'),
+    ('if len(parts) > 1024:', 'if len(parts) > 1025:'),
+    ("if name == 'answers' and values[0] > 1:", 'if False:'),
+    ('if len(words) != 1 + len(keys):', 'if len(words) < 1 + len(keys):'),
+    ("if not word.startswith(key.encode() + b'='):", "if b'=' not in word:"),
+    ('.read()[:65536]', '.read()'),
+    ('.read()[:65536]', '.read()[:65535]'),
+    ("if lines[-1] == b'':\n        lines.pop()", 'lines.pop()'),
+    ("if lines[-1] == b'':\n        lines.pop()", 'pass'),
+    ('sum(self.counts), self.binary, *self.counts', 'len(self.live()), self.binary, *self.counts'),
+    ('length = self.record[at + 1] if at + 1 < end else 0', 'length = self.record[at + 1]'),
+    ('text(self.record[at + 2:min(end, at + 2 + length)])', 'text(self.record[at + 2:at + 2 + length])'),
+    ('self.words[:min(self.used, self.room[0])]', 'self.words[:self.used]'),
+    ('if self.row_counts[code]:\n                out', 'if self.row(code):\n                out'),
+    ('return 2 * self.per_variable() if self.V else 0', 'return 2 * self.per_variable()'),
+    ('V = self.per_variable() if self.V else 0', 'V = self.per_variable()'),
+    ('rows -= behind(self.row(code), 0, ROWS)', 'rows -= len(self.row(code))'),
+    ('refuse(start > end or end > self.room[0], 4)', 'refuse(start > end or end > self.used, 4)'),
+    ('refuse(start > end or end > self.room[0], 4)', 'refuse(start > end, 4)'),
+    ('NAN if is_nan(words[0]) else words[0]', 'words[0]'),
+    ('lits = words[3:3 + words[2]]', 'lits = words[3:]'),
+    ('if len(words) < 3:', 'if len(words) < 4:'),
 ]
 
 
@@ -127,6 +171,7 @@ def main():
     parser.add_argument('count', type=int, nargs='?', default=400)
     parser.add_argument('--choose')
     parser.add_argument('--dir')
+    parser.add_argument('--after', type=int, default=0, help='leave out so many faults')
     options = parser.parse_args()
     with open(os.path.join(HERE, 'paper_walk.py')) as file:
         paper = file.read()
@@ -169,7 +214,8 @@ def main():
     # One walk of each kind; the two slow kinds are tried last.
     chosen = [0, 1, 2, 3, 4, 5, 8, 9, 10, 11]
     order.sort(key=lambda seed: not options.dir and seed % 12 in (6, 7))
-    for old, new in FAULTS:
+    faults = FAULTS[options.after:]
+    for old, new in faults:
         if paper.count(old) != 1:
             print('NOT ONE PLACE (%d) %r' % (paper.count(old), old))
             missed += 1
@@ -186,7 +232,7 @@ def main():
         else:
             missed += 1
             print('NOT FOUND   %r -> %r' % (old[:70], new[:70]), flush=True)
-    print('%d of %d faults found' % (len(FAULTS) - missed, len(FAULTS)))
+    print('%d of %d faults found' % (len(faults) - missed, len(faults)))
     if options.choose:
         chosen += [seed for seed in (6, 7) if seed not in chosen]
         with open(options.choose, 'w') as file:

@@ -1060,6 +1060,9 @@ impl Writer {
                 let free = self.lent().values[var] == 2;
                 let value = self.random.pick(&[0, 1, 2, 3, 255]).unwrap();
                 self.change(&mut mending, 9, var, value);
+                if value > 2 && self.random.percent(40) {
+                    self.say(format!("op=unit lit={}", 2 * var));
+                }
                 if free {
                     let kind = self.random.pick(&[4, 4, 0, 3]).unwrap();
                     self.change(&mut mending, 10, var, kind);
@@ -1524,6 +1527,39 @@ impl Writer {
         self.say(format!("op=start vars={}", vars));
     }
 
+    /// A new start over a store in use, with rooms of its own, and a look at what it left.
+    fn restart(&mut self) {
+        if self.random.percent(60) {
+            self.fitting_room();
+        }
+        if self.random.percent(50) {
+            self.odd_but_passing();
+        }
+        if self.random.percent(40) {
+            self.damage();
+        }
+        self.start();
+        let old = self.lent().state.vars as u32;
+        match self.random.below(4) {
+            0 => {
+                self.say("op=dump".into());
+            }
+            1 => {
+                self.say("op=tails".into());
+                self.room(WORDS, [LIST; 5], ROWS, RECORD);
+                self.say("op=tails".into());
+            }
+            2 => {
+                let more = self.random.within(1, 4) as u32;
+                self.poke(14, 0, old + more);
+                self.say("op=dump".into());
+                self.say("op=collect".into());
+                self.poke(14, 0, old);
+            }
+            _ => (),
+        }
+    }
+
     fn write(&mut self) {
         if self.random.percent(5) {
             self.call();
@@ -1582,7 +1618,8 @@ impl Writer {
             Kind::Spelling if chance < 60 => return self.spelling(),
             Kind::Tight if chance < 10 => return self.fitting_room(),
             Kind::Tight if chance < 12 => return self.full_room(),
-            Kind::Tight if chance < 14 => return self.start(),
+            Kind::Tight if chance < 14 => return self.restart(),
+            Kind::Small if chance < 3 => return self.restart(),
             Kind::Simplifying if chance < 15 => {
                 self.simplify();
                 return self.look();
@@ -1603,8 +1640,8 @@ impl Writer {
             97 => self.damage(),
             98 => self.spelling(),
             _ => {
-                if self.random.percent(30) {
-                    self.start();
+                if self.random.percent(50) {
+                    self.restart();
                 } else {
                     self.back_to_0();
                 }
