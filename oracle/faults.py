@@ -151,7 +151,6 @@ FAULTS = [
     ("if lines[-1] == b'':\n        lines.pop()", 'lines.pop()'),
     ("if lines[-1] == b'':\n        lines.pop()", 'pass'),
     ('sum(self.counts), self.binary, *self.counts', 'len(self.live()), self.binary, *self.counts'),
-    ('length = self.record[at + 1] if at + 1 < end else 0', 'length = self.record[at + 1]'),
     ('text(self.record[at + 2:min(end, at + 2 + length)])', 'text(self.record[at + 2:at + 2 + length])'),
     ('self.words[:min(self.used, self.room[0])]', 'self.words[:self.used]'),
     ('if self.row_counts[code]:\n                out', 'if self.row(code):\n                out'),

@@ -45,7 +45,9 @@ def pairs(text):
 
 def main():
     page = sys.argv[1]
-    program = sys.argv[2] if len(sys.argv) > 2 else os.path.join(HERE, 'target/release/oracle-walk')
+    program = os.path.join(HERE, 'target/release/oracle-walk')
+    if len(sys.argv) > 2:
+        program = os.path.abspath(sys.argv[2])
     with open(page) as file:
         found = pairs(file.read())
     wrong = 0

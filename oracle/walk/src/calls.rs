@@ -314,7 +314,11 @@ pub fn simplify(lent: &mut Lent) -> Answer<bool> {
 pub fn some_clause_lacks(lent: &Lent) -> bool {
     let lacks = |clause: &[u32]| {
         !clause.iter().any(|&code| lent.is_true(code))
-            && clause.iter().filter(|&&code| lent.is_unassigned(code)).count() < 2
+            && clause
+                .iter()
+                .filter(|&&code| lent.is_unassigned(code))
+                .count()
+                < 2
     };
     let long = lent.live().iter().any(|&at| lacks(lent.literals(at)));
     long || (0..2 * lent.state.vars).any(|code| {

@@ -125,7 +125,10 @@ pub fn check() {
     assert_eq!(rows.by_lit[4], lits(&[0]));
     assert_eq!(rows.count, 1);
     let rows = binary(rows);
-    assert_eq!((rows.implied(Lit::from_code(4)), rows.count()), (&lits(&[0])[..], 1));
+    assert_eq!(
+        (rows.implied(Lit::from_code(4)), rows.count()),
+        (&lits(&[0])[..], 1)
+    );
 
     let mut floats = ClauseActivity::default();
     floats.set_decay(0.25);
@@ -133,6 +136,9 @@ pub fn check() {
     assert_eq!((floats.bump, floats.inv_decay), (1.0, 4.0));
 
     let header = header([5.0f32.to_bits(), 1024 + 16 * 9 + 8 + 2, 6]);
-    assert_eq!((header.activity(), header.len(), header.glue()), (5.0, 6, 9));
+    assert_eq!(
+        (header.activity(), header.len(), header.glue()),
+        (5.0, 6, 9)
+    );
     assert!(header.active() && header.mark() && !header.deleted() && header.tier() == Tier::Mid);
 }

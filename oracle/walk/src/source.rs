@@ -116,7 +116,13 @@ pub fn load<'a>(lent: &Lent, parts: Parts, recorder: &'a mut Recorder) -> Contex
         ctx.clause_alloc = mirrors::alloc(mirrors::Alloc {
             buffer: lent.used_words().to_vec(),
         });
-        let tiers = |tier: usize| if parts.tiers { lent.list(1 + tier) } else { &[] };
+        let tiers = |tier: usize| {
+            if parts.tiers {
+                lent.list(1 + tier)
+            } else {
+                &[]
+            }
+        };
         ctx.clause_db = mirrors::db(mirrors::Db {
             clauses: refs(lent.list(0)),
             by_tier: std::array::from_fn(|tier| refs(tiers(tier))),
@@ -126,7 +132,9 @@ pub fn load<'a>(lent: &Lent, parts: Parts, recorder: &'a mut Recorder) -> Contex
     }
     if parts.rows {
         ctx.binary_clauses = mirrors::binary(mirrors::Binary {
-            by_lit: (0..2 * state.vars).map(|code| lits(lent.row(code))).collect(),
+            by_lit: (0..2 * state.vars)
+                .map(|code| lits(lent.row(code)))
+                .collect(),
             count: state.binary,
         });
     }

@@ -429,7 +429,10 @@ fn dump(lent: &Lent) -> String {
     let vars = if state.vars == 0 { 0 } else { lent.lent_vars() };
     let mut line = |name: &str, text: String| writeln!(out, "{}={}", name, text).unwrap();
     line("words", commas(lent.used_words()));
-    for (list, name) in ["clauses", "irred", "core", "mid", "local"].iter().enumerate() {
+    for (list, name) in ["clauses", "irred", "core", "mid", "local"]
+        .iter()
+        .enumerate()
+    {
         line(name, commas(lent.list(list)));
     }
     for code in 0..rows_seen(lent) {

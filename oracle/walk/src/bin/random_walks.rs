@@ -152,7 +152,12 @@ impl Writer {
         let size = lent.state.words.min(WORDS)
             + lent.state.record.min(RECORD)
             + 4 * lent.lent_vars()
-            + lent.state.lists.iter().map(|&used| used.min(LIST)).sum::<usize>();
+            + lent
+                .state
+                .lists
+                .iter()
+                .map(|&used| used.min(LIST))
+                .sum::<usize>();
         let chance = if size < 200 {
             60
         } else if size < 1_000 {
@@ -281,9 +286,7 @@ impl Writer {
         } else {
             let wide = self.random.below(70);
             let narrow = self.random.below(10);
-            self.random
-                .pick(&[narrow, narrow, wide, 63, 64])
-                .unwrap()
+            self.random.pick(&[narrow, narrow, wide, 63, 64]).unwrap()
         };
         if self.random.percent(3) {
             tier = self.random.pick(&[0, 4, 5]).unwrap();
@@ -315,7 +318,11 @@ impl Writer {
     fn put(&mut self, literal: u32) {
         let level = self.lent().level;
         let lower = self.random.below(level as usize + 1) as u32;
-        let level = if self.random.percent(80) { level } else { lower };
+        let level = if self.random.percent(80) {
+            level
+        } else {
+            lower
+        };
         let falses: Vec<u32> = (0..2 * self.vars() as u32)
             .filter(|&code| self.lent().is_false(code))
             .collect();
@@ -602,7 +609,10 @@ impl Writer {
         let wild = self.random.next() as u32;
         match self.random.below(8) {
             0 | 1 => {
-                let kind = self.random.pick(&[0, 1, 2, 3, 4, 5, 255, 256, wild]).unwrap();
+                let kind = self
+                    .random
+                    .pick(&[0, 1, 2, 3, 4, 5, 255, 256, wild])
+                    .unwrap();
                 let value = self.reference();
                 let level = self.random.below(vars + 2);
                 let line = format!(
@@ -787,8 +797,8 @@ impl Writer {
             let buffer = self
                 .random
                 .pick(&[
-                    0, 0, 0, 1, 2, 3, 4, 5, 5, 6, 6, 7, 7, 8, 9, 9, 10, 10, 11, 11, 12, 13, 13, 14, 14,
-                    14, 14,
+                    0, 0, 0, 1, 2, 3, 4, 5, 5, 6, 6, 7, 7, 8, 9, 9, 10, 10, 11, 11, 12, 13, 13, 14,
+                    14, 14, 14,
                 ])
                 .unwrap();
             let at = self.place(buffer);
@@ -818,7 +828,13 @@ impl Writer {
     }
 
     /// Pokes and remembers what stood there.
-    fn change(&mut self, mending: &mut Vec<(usize, usize, u32)>, buffer: usize, at: usize, value: u32) {
+    fn change(
+        &mut self,
+        mending: &mut Vec<(usize, usize, u32)>,
+        buffer: usize,
+        at: usize,
+        value: u32,
+    ) {
         let old = self.standing(buffer, at);
         if self.poke(buffer, at, value) == 0 {
             mending.push((buffer, at, old));
@@ -1107,7 +1123,15 @@ impl Writer {
             23 => {
                 let number = self
                     .random
-                    .pick(&[0, 1_024, 1_025, 65_536, 65_537, vars as u32 - 1, vars as u32 + 1])
+                    .pick(&[
+                        0,
+                        1_024,
+                        1_025,
+                        65_536,
+                        65_537,
+                        vars as u32 - 1,
+                        vars as u32 + 1,
+                    ])
                     .unwrap();
                 self.change(&mut mending, 14, 0, number);
             }
@@ -1496,15 +1520,122 @@ impl Writer {
             };
             self.say_bytes(line);
         }
-        let short = self.random.below(12);
+        // The next line ends with the last byte that is read, or about there.
+        let line = self
+            .random
+            .pick(&[
+                "op=dump",
+                "op=tails",
+                "op=show",
+                "op=answers on=1",
+                "op=decay",
+            ])
+            .unwrap();
+        let short = line.len() + self.random.pick(&[0, 1, 1, 1, 2]).unwrap() - 1;
         let fill = 65_536 - 1 - short - self.input;
         self.say_bytes(vec![b'x'; fill]);
-        for _ in 0..3 {
-            let line = self
-                .random
-                .pick(&["op=dump", "op=tails", "op=show", "op=answers on=1", "", "op=decay"])
-                .unwrap();
-            self.say(line.into());
+        self.say(line.into());
+        if self.random.percent(50) {
+            self.ended = false;
+        } else {
+            self.say("op=tails".into());
+        }
+    }
+
+    /// Printing of what does not pass, and numbers at the edge of what is read.
+    fn odd_print(&mut self) {
+        let nan = self
+            .random
+            .pick(&[2_139_095_041, 4_294_967_295, 4_286_578_689, 2_143_289_345])
+            .unwrap();
+        match self.random.below(7) {
+            0 => {
+                let field = self.random.within(14, 15);
+                let old = self.standing(14, field);
+                self.poke(14, field, nan);
+                self.say("op=dump".into());
+                self.poke(14, field, old);
+            }
+            1 => {
+                let at = self.random.below(40);
+                let old = self.standing(0, at);
+                self.poke(0, at, nan);
+                self.say(format!("op=view from={} to={}", at, at + 5));
+                self.poke(0, at, old);
+            }
+            2 => {
+                let used = self.lent().state.record;
+                if used > 0 && used <= RECORD {
+                    let cut = self.random.below(used.min(40)) as u32;
+                    self.poke(14, 7, cut);
+                    self.say("op=show".into());
+                    self.poke(14, 7, used as u32);
+                } else {
+                    self.poke(8, 0, 3);
+                    self.poke(8, 1, 4);
+                    let cut = self.random.below(5) as u32;
+                    self.poke(14, 7, cut);
+                    self.say("op=show".into());
+                    self.say("op=empty".into());
+                }
+            }
+            3 => {
+                let old = self.lent().state.vars as u32;
+                let number = self.random.pick(&[0, 0, 1_025, 4_294_967_295]).unwrap();
+                self.poke(14, 0, number);
+                self.say("op=dump".into());
+                self.say("op=tails".into());
+                self.poke(14, 0, old);
+            }
+            4 => {
+                let number = self
+                    .random
+                    .pick(&[
+                        "2",
+                        "01",
+                        "10",
+                        "3",
+                        "4294967296",
+                        "00000000001",
+                        "0000000001",
+                    ])
+                    .unwrap();
+                self.say(format!("op=answers on={}", number));
+                self.say("op=answers on=1".into());
+            }
+            5 => {
+                let number = self
+                    .random
+                    .pick(&[
+                        "4294967295",
+                        "4294967296",
+                        "4294967297",
+                        "9999999999",
+                        "0000000000",
+                    ])
+                    .unwrap();
+                let line = self
+                    .random
+                    .pick(&[
+                        "op=bump ref=",
+                        "op=assess lits=0,",
+                        "op=implied lit=",
+                        "op=start vars=",
+                    ])
+                    .unwrap();
+                self.say(format!("{}{}", line, number));
+            }
+            _ => {
+                // Used lengths above their room: printed cut, with nothing behind.
+                let field = self.random.within(1, 7);
+                let old = self.standing(14, field);
+                let number = self.random.pick(&[99_999, 16_385, 4_097]).unwrap();
+                if self.random.percent(20) {
+                    self.poke(14, field, number);
+                    self.say("op=tails".into());
+                    self.poke(14, field, old);
+                }
+            }
         }
     }
 
@@ -1518,7 +1649,9 @@ impl Writer {
             Kind::Spelling => self.random.within(1, 4),
             Kind::Wide => {
                 let wide = self.random.within(100, 1_024);
-                self.random.pick(&[1, 2, 1_024, 1_024, 1_023, wide, wide]).unwrap()
+                self.random
+                    .pick(&[1, 2, 1_024, 1_024, 1_023, wide, wide])
+                    .unwrap()
             }
         };
         if self.kind == Kind::Tight {
@@ -1596,7 +1729,7 @@ impl Writer {
             }
             self.step();
         }
-        if self.kind == Kind::Spelling && self.random.percent(15) && self.input < 50_000 {
+        if self.kind == Kind::Spelling && self.random.percent(30) && self.input < 50_000 {
             return self.beyond();
         }
         self.say("op=dump".into());
@@ -1613,9 +1746,11 @@ impl Writer {
         match self.kind {
             Kind::Damaged if chance < 18 => return self.damage(),
             Kind::Damaged if chance < 45 => return self.edge(),
+            Kind::Damaged if chance < 49 => return self.odd_print(),
             Kind::Floats if chance < 26 => return self.floats(),
             Kind::Floats if chance < 36 => return self.glue_edge(),
-            Kind::Spelling if chance < 60 => return self.spelling(),
+            Kind::Spelling if chance < 45 => return self.spelling(),
+            Kind::Spelling if chance < 60 => return self.odd_print(),
             Kind::Tight if chance < 10 => return self.fitting_room(),
             Kind::Tight if chance < 12 => return self.full_room(),
             Kind::Tight if chance < 14 => return self.restart(),
