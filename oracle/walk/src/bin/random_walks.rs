@@ -1003,7 +1003,7 @@ impl Writer {
                         push(self, b ^ 1, a);
                     }
                 }
-                self.change(&mut mending, 14, 13, state.binary as u32 + 1);
+                self.change(&mut mending, 14, 13, (state.binary as u32).wrapping_add(1));
             }
             10 => {
                 let more = self.random.pick(&[1u32, u32::MAX, 2]).unwrap();
@@ -1060,7 +1060,7 @@ impl Writer {
                         2 => self.change(&mut mending, 0, at + 2, 2),
                         _ => {
                             let length = self.standing(0, at + 2);
-                            self.change(&mut mending, 0, at + 2, length - 1);
+                            self.change(&mut mending, 0, at + 2, length.wrapping_sub(1));
                         }
                     }
                 }
