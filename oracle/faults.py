@@ -8,7 +8,8 @@ Each edit below puts one fault into paper_walk.py; the walks of seeds 0 to COUNT
 are run on it until one prints other bytes than oracle-walk. Printed: the seed that found it, or that
 the fault was not found. With --choose the seeds that were needed are written to FILE, the first
 twelve always among them. With --dir the walks are the files of a fixed list. Edits that change nothing are not listed: a row entry out of range has no
-counterpart, and different variables in range are at most V anyway.
+counterpart, and different variables in range are at most V anyway. Nor is one that shows only with a
+record filled to its last word (a kind without a length there).
 """
 import argparse
 import io
