@@ -1,0 +1,3 @@
+//! Stand-in: no models.
+#[derive(Default)]
+pub struct Model;

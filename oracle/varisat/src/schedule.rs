@@ -1,0 +1,3 @@
+//! Stand-in: no schedule.
+#[derive(Default)]
+pub struct Schedule;
