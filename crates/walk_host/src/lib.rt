@@ -168,6 +168,24 @@ pub fn assign(
     gives(pushed, 0)
 }
 
+// "the host puts L true on the trail, reason unit, value 0, at the current level; out of range or assigned: 4". The current level came from a number below 2^32.
+pub fn unit(
+    walk: Walk,
+    values: &mut [u8],
+    kinds: &mut [u8],
+    reasons: &mut [u32],
+    levels: &mut [u32],
+    trail: &mut [u32],
+    lit: Lit,
+) -> Told {
+    let level = low(walk.level);
+    assign(walk, values, kinds, reasons, levels, trail, lit, 1, 0, level)
+}
+
+fn low(level: usize) -> u32 {
+    (level % 0x1_0000_0000) as u32
+}
+
 // A literal goes on the trail, where there is a place.
 fn push(walk: Walk, trail: &mut [u32], code: u32) -> Walk {
     let assigned = walk.assigned;

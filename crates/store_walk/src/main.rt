@@ -1,0 +1,4 @@
+// `store-walk`: see docs/walk.md.
+fn main() {
+    walk_run::run();
+}
