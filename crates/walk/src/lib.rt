@@ -1,6 +1,6 @@
 // A line is carried out on the walk's buffers, and what it prints is laid on a page.
-use walk_kinds::Told;
 use walk_kinds::Said;
+use walk_kinds::Told;
 use walk_kinds::Walk;
 use walk_lines::Line;
 
@@ -37,7 +37,10 @@ fn said(told: Told, op: &[u8], out: &mut [u8; 1048576]) -> Printed {
         return page(walk, walk_show::accepted(out, 0, op, words));
     }
     match words {
-        Said::Assessed(tier, glue) => page(walk, walk_show::accepted(out, 0, op, Said::Assessed(tier, glue))),
+        Said::Assessed(tier, glue) => page(
+            walk,
+            walk_show::accepted(out, 0, op, Said::Assessed(tier, glue)),
+        ),
         _ => nothing(walk),
     }
 }
@@ -57,11 +60,43 @@ fn adding(
     out: &mut [u8; 1048576],
 ) -> Printed {
     match line {
-        Line::Long(tier, glue, n) => said(walk_calls::long(walk, words, clauses, irred, core, mid, local, numbers, tier, glue, n), b"long", out),
-        Line::Tier(cref, tier) => said(walk_calls::tier(walk, words, clauses, irred, core, mid, local, cref, tier), b"tier", out),
-        Line::Bump(cref) => said(walk_calls::bump(walk, words, clauses, irred, core, mid, local, levels, cref), b"bump", out),
-        Line::Decay => said(walk_calls::decay(walk, words, clauses, irred, core, mid, local), b"decay", out),
-        Line::Mids => said(walk_calls::mids(walk, words, clauses, irred, core, mid, local), b"mids", out),
+        Line::Long(tier, glue, n) => said(
+            walk_calls::long(
+                walk,
+                words,
+                clauses,
+                irred,
+                core,
+                mid,
+                local,
+                numbers,
+                tier,
+                glue,
+                n,
+            ),
+            b"long",
+            out,
+        ),
+        Line::Tier(cref, tier) => said(
+            walk_calls::tier(walk, words, clauses, irred, core, mid, local, cref, tier),
+            b"tier",
+            out,
+        ),
+        Line::Bump(cref) => said(
+            walk_calls::bump(walk, words, clauses, irred, core, mid, local, levels, cref),
+            b"bump",
+            out,
+        ),
+        Line::Decay => said(
+            walk_calls::decay(walk, words, clauses, irred, core, mid, local),
+            b"decay",
+            out,
+        ),
+        Line::Mids => said(
+            walk_calls::mids(walk, words, clauses, irred, core, mid, local),
+            b"mids",
+            out,
+        ),
         _ => nothing(walk),
     }
 }
@@ -78,7 +113,11 @@ fn small(
     out: &mut [u8; 1048576],
 ) -> Printed {
     match line {
-        Line::Binary(n) => said(walk_calls::binary(walk, rows, counts, numbers, n), b"binary", out),
+        Line::Binary(n) => said(
+            walk_calls::binary(walk, rows, counts, numbers, n),
+            b"binary",
+            out,
+        ),
         Line::Empty => said(walk_calls::empty(walk, rec), b"empty", out),
         Line::Assess(n) => said(walk_calls::assess(walk, levels, numbers, n), b"assess", out),
         _ => nothing(walk),
@@ -106,11 +145,99 @@ fn cleaning(
     out: &mut [u8; 1048576],
 ) -> Printed {
     match line {
-        Line::Delete(cref) => said(walk_cleaning::delete(walk, words, clauses, irred, core, mid, local, rec, values, kinds, reasons, levels, trail, cref), b"delete", out),
-        Line::Locals => said(walk_cleaning::locals(walk, words, clauses, irred, core, mid, local, rec, values, kinds, reasons, levels, trail), b"locals", out),
-        Line::Collect => said(walk_cleaning::collect(walk, words, clauses, irred, core, mid, local, values, kinds, reasons, levels, trail), b"collect", out),
-        Line::Units => said(walk_cleaning::units(walk, words, clauses, rec, values, kinds, reasons, levels, trail), b"units", out),
-        Line::Simplify => said(walk_cleaning::simplify(walk, words, clauses, irred, core, mid, local, rows, counts, rec, values, kinds, reasons, levels, trail), b"simplify", out),
+        Line::Delete(cref) => said(
+            walk_cleaning::delete(
+                walk,
+                words,
+                clauses,
+                irred,
+                core,
+                mid,
+                local,
+                rec,
+                values,
+                kinds,
+                reasons,
+                levels,
+                trail,
+                cref,
+            ),
+            b"delete",
+            out,
+        ),
+        Line::Locals => said(
+            walk_cleaning::locals(
+                walk,
+                words,
+                clauses,
+                irred,
+                core,
+                mid,
+                local,
+                rec,
+                values,
+                kinds,
+                reasons,
+                levels,
+                trail,
+            ),
+            b"locals",
+            out,
+        ),
+        Line::Collect => said(
+            walk_cleaning::collect(
+                walk,
+                words,
+                clauses,
+                irred,
+                core,
+                mid,
+                local,
+                values,
+                kinds,
+                reasons,
+                levels,
+                trail,
+            ),
+            b"collect",
+            out,
+        ),
+        Line::Units => said(
+            walk_cleaning::units(
+                walk,
+                words,
+                clauses,
+                rec,
+                values,
+                kinds,
+                reasons,
+                levels,
+                trail,
+            ),
+            b"units",
+            out,
+        ),
+        Line::Simplify => said(
+            walk_cleaning::simplify(
+                walk,
+                words,
+                clauses,
+                irred,
+                core,
+                mid,
+                local,
+                rows,
+                counts,
+                rec,
+                values,
+                kinds,
+                reasons,
+                levels,
+                trail,
+            ),
+            b"simplify",
+            out,
+        ),
         _ => nothing(walk),
     }
 }
@@ -128,8 +255,27 @@ fn hosting(
 ) -> Printed {
     match line {
         Line::Room(rooms) => said(walk_host::room(walk, rooms), b"room", out),
-        Line::Unit(lit) => said(walk_host::unit(walk, values, kinds, reasons, levels, trail, lit), b"unit", out),
-        Line::Assign(lit, kind, value, level) => said(walk_host::assign(walk, values, kinds, reasons, levels, trail, lit, kind, value, level), b"assign", out),
+        Line::Unit(lit) => said(
+            walk_host::unit(walk, values, kinds, reasons, levels, trail, lit),
+            b"unit",
+            out,
+        ),
+        Line::Assign(lit, kind, value, level) => said(
+            walk_host::assign(
+                walk,
+                values,
+                kinds,
+                reasons,
+                levels,
+                trail,
+                lit,
+                kind,
+                value,
+                level,
+            ),
+            b"assign",
+            out,
+        ),
         Line::Undo => said(walk_host::undo(walk, values, trail), b"undo", out),
         Line::Level(level) => said(walk_host::level(walk, level), b"level", out),
         Line::Depth(var, level) => said(walk_host::depth(walk, levels, var, level), b"depth", out),
@@ -163,8 +309,44 @@ fn paging(
         Line::Literals(cref) => page(walk, walk_pages::literals(walk, words, clauses, out, cref)),
         Line::View(from, end) => page(walk, walk_pages::view(walk, words, out, from, end)),
         Line::Show => page(walk, walk_pages::show(walk, rec, out)),
-        Line::Dump => page(walk, walk_pages::dump(walk, words, clauses, irred, core, mid, local, rows, counts, rec, values, kinds, reasons, levels, trail, out)),
-        Line::Tails => page(walk, walk_pages::tails(walk, words, clauses, irred, core, mid, local, rows, counts, rec, trail, out)),
+        Line::Dump => page(
+            walk,
+            walk_pages::dump(
+                walk,
+                words,
+                clauses,
+                irred,
+                core,
+                mid,
+                local,
+                rows,
+                counts,
+                rec,
+                values,
+                kinds,
+                reasons,
+                levels,
+                trail,
+                out,
+            ),
+        ),
+        Line::Tails => page(
+            walk,
+            walk_pages::tails(
+                walk,
+                words,
+                clauses,
+                irred,
+                core,
+                mid,
+                local,
+                rows,
+                counts,
+                rec,
+                trail,
+                out,
+            ),
+        ),
         _ => nothing(walk),
     }
 }
@@ -189,7 +371,19 @@ fn starting(
     out: &mut [u8; 1048576],
     vars: u32,
 ) -> Printed {
-    let told = walk_pages::start(walk, words, clauses, irred, core, mid, local, rows, counts, rec, vars);
+    let told = walk_pages::start(
+        walk,
+        words,
+        clauses,
+        irred,
+        core,
+        mid,
+        local,
+        rows,
+        counts,
+        rec,
+        vars,
+    );
     if told.number != 0 {
         return said(told, b"start", out);
     }
@@ -250,7 +444,12 @@ fn group_of(line: Line) -> u32 {
         Line::Long(_, _, _) | Line::Tier(_, _) | Line::Bump(_) | Line::Decay | Line::Mids => 3,
         Line::Binary(_) | Line::Empty | Line::Assess(_) => 4,
         Line::Delete(_) | Line::Locals | Line::Collect | Line::Units | Line::Simplify => 5,
-        Line::Implied(_) | Line::Literals(_) | Line::View(_, _) | Line::Show | Line::Dump | Line::Tails => 6,
+        Line::Implied(_)
+        | Line::Literals(_)
+        | Line::View(_, _)
+        | Line::Show
+        | Line::Dump
+        | Line::Tails => 6,
         _ => 7,
     }
 }
@@ -278,23 +477,112 @@ pub fn carry_out(
 ) -> Printed {
     let group = group_of(line);
     if group == 3 {
-        return adding(walk, line, words, clauses, irred, core, mid, local, numbers, levels, out);
+        return adding(
+            walk,
+            line,
+            words,
+            clauses,
+            irred,
+            core,
+            mid,
+            local,
+            numbers,
+            levels,
+            out,
+        );
     }
     if group == 4 {
         return small(walk, line, rows, counts, rec, levels, numbers, out);
     }
     if group == 5 {
-        return cleaning(walk, line, words, clauses, irred, core, mid, local, rows, counts, rec, values, kinds, reasons, levels, trail, out);
+        return cleaning(
+            walk,
+            line,
+            words,
+            clauses,
+            irred,
+            core,
+            mid,
+            local,
+            rows,
+            counts,
+            rec,
+            values,
+            kinds,
+            reasons,
+            levels,
+            trail,
+            out,
+        );
     }
     if group == 6 {
-        return paging(walk, line, words, clauses, irred, core, mid, local, rows, counts, rec, values, kinds, reasons, levels, trail, out);
+        return paging(
+            walk,
+            line,
+            words,
+            clauses,
+            irred,
+            core,
+            mid,
+            local,
+            rows,
+            counts,
+            rec,
+            values,
+            kinds,
+            reasons,
+            levels,
+            trail,
+            out,
+        );
     }
     if group == 7 {
         return hosting(walk, line, values, kinds, reasons, levels, trail, out);
     }
     match line {
-        Line::Start(vars) => starting(walk, words, clauses, irred, core, mid, local, rows, counts, rec, values, kinds, reasons, levels, trail, out, vars),
-        Line::Poke(buffer, at, value) => said(poked(walk, words, clauses, irred, core, mid, local, rows, counts, rec, values, kinds, reasons, levels, trail, buffer, at, value), b"poke", out),
+        Line::Start(vars) => starting(
+            walk,
+            words,
+            clauses,
+            irred,
+            core,
+            mid,
+            local,
+            rows,
+            counts,
+            rec,
+            values,
+            kinds,
+            reasons,
+            levels,
+            trail,
+            out,
+            vars,
+        ),
+        Line::Poke(buffer, at, value) => said(
+            poked(
+                walk,
+                words,
+                clauses,
+                irred,
+                core,
+                mid,
+                local,
+                rows,
+                counts,
+                rec,
+                values,
+                kinds,
+                reasons,
+                levels,
+                trail,
+                buffer,
+                at,
+                value,
+            ),
+            b"poke",
+            out,
+        ),
         _ => page(walk, walk_show::answer(out, 0, b"none", 99)),
     }
 }

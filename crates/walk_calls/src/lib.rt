@@ -173,13 +173,7 @@ pub fn mids(
 }
 
 // `op=binary`
-pub fn binary(
-    walk: Walk,
-    rows: &mut [u32],
-    counts: &mut [u32],
-    numbers: &[u32],
-    n: usize,
-) -> Told {
+pub fn binary(walk: Walk, rows: &mut [u32], counts: &mut [u32], numbers: &[u32], n: usize) -> Told {
     let rooms = walk.rooms;
     let state = walk.state;
     let vars = walk_kinds::lent_vars(state.vars);
@@ -196,27 +190,16 @@ pub fn binary(
 }
 
 // `op=empty`
-pub fn empty(
-    walk: Walk,
-    rec: &mut [u32],
-) -> Told {
+pub fn empty(walk: Walk, rec: &mut [u32]) -> Told {
     let rooms = walk.rooms;
     let state = walk.state;
     let rec_lent = walk_kinds::least(rooms.rec, rec.len());
-    let reply = reading_calls::empty_record(
-        state,
-        &mut rec[0..rec_lent],
-    );
+    let reply = reading_calls::empty_record(state, &mut rec[0..rec_lent]);
     walk_replies::plain(walk, reply)
 }
 
 // `op=assess`
-pub fn assess(
-    walk: Walk,
-    levels: &[u32],
-    numbers: &[u32],
-    n: usize,
-) -> Told {
+pub fn assess(walk: Walk, levels: &[u32], numbers: &[u32], n: usize) -> Told {
     let state = walk.state;
     let vars = walk_kinds::lent_vars(state.vars);
     let levels_lent = walk_kinds::least(vars, levels.len());

@@ -179,7 +179,18 @@ pub fn unit(
     lit: Lit,
 ) -> Told {
     let level = low(walk.level);
-    assign(walk, values, kinds, reasons, levels, trail, lit, 1, 0, level)
+    assign(
+        walk,
+        values,
+        kinds,
+        reasons,
+        levels,
+        trail,
+        lit,
+        1,
+        0,
+        level,
+    )
 }
 
 fn low(level: usize) -> u32 {

@@ -29,24 +29,52 @@ fn implied_on(walk: Walk, rows: &[u32], counts: &[u32], out: &mut [u8], lit: Lit
     if number != 0 {
         return walk_show::answer(out, 0, b"implied", number);
     }
-    walk_show::listed(out, 0, b"implied", binary_calls::implied(state, rows, counts, lit))
+    walk_show::listed(
+        out,
+        0,
+        b"implied",
+        binary_calls::implied(state, rows, counts, lit),
+    )
 }
 
 // `op=literals`
-pub fn literals(walk: Walk, words: &[u32], clauses: &[u32], out: &mut [u8], cref: ClauseRef) -> usize {
+pub fn literals(
+    walk: Walk,
+    words: &[u32],
+    clauses: &[u32],
+    out: &mut [u8],
+    cref: ClauseRef,
+) -> usize {
     let rooms = walk.rooms;
     let words_lent = walk_kinds::least(rooms.words, words.len());
     let clauses_lent = walk_kinds::least(rooms.clauses, clauses.len());
-    literals_on(walk, &words[0..words_lent], &clauses[0..clauses_lent], out, cref)
+    literals_on(
+        walk,
+        &words[0..words_lent],
+        &clauses[0..clauses_lent],
+        out,
+        cref,
+    )
 }
 
-fn literals_on(walk: Walk, words: &[u32], clauses: &[u32], out: &mut [u8], cref: ClauseRef) -> usize {
+fn literals_on(
+    walk: Walk,
+    words: &[u32],
+    clauses: &[u32],
+    out: &mut [u8],
+    cref: ClauseRef,
+) -> usize {
     let state = walk.state;
     let number = number_of(reading_calls::clause_lits_number(state, words, clauses, cref));
     if number != 0 {
         return walk_show::answer(out, 0, b"literals", number);
     }
-    walk_show::listed(out, 0, b"literals", reading_calls::clause_lits(state, words, clauses, cref))
+    walk_show::listed(
+        out,
+        0,
+        b"literals",
+        reading_calls::clause_lits(state, words, clauses, cref),
+    )
 }
 
 // `op=view`
@@ -207,7 +235,14 @@ pub fn start(
 }
 
 // "where accepted, the host side becomes: all unassigned, reasons none, values and levels 0, trail empty, current level 0"
-pub fn begin_host(walk: Walk, values: &mut [u8], kinds: &mut [u8], reasons: &mut [u32], levels: &mut [u32], trail: &mut [u32]) -> Walk {
+pub fn begin_host(
+    walk: Walk,
+    values: &mut [u8],
+    kinds: &mut [u8],
+    reasons: &mut [u32],
+    levels: &mut [u32],
+    trail: &mut [u32],
+) -> Walk {
     set_bytes(values, 2);
     set_bytes(kinds, 0);
     clear_words(reasons);
@@ -233,9 +268,6 @@ fn set_bytes(bytes: &mut [u8], byte: u8) {
 }
 
 fn clear_words(words: &mut [u32]) {
-    let mut i = 0;
-    while i < words.len() {
-        words[i] = 0;
-        i += 1;
-    }
+    let n = words.len();
+    buffers::clear(words, 0, n);
 }

@@ -1,41 +1,37 @@
+use mathlib.Core.Path.{_≡_, refl, _∙_}
+use Prim.Native.Nat.{ℕ, _-_, _≤_}
+use lib.ListN.{length, length-set}
+use borrow.Author.Needs.{needs}
+use native.Mathlib.Omega.{arith}
 use Rattle.walk_pages.proofs.set_bytes.Statement.{statement}
 use Rattle.walk_pages.proofs.set_bytes.Tie as tie
-use Rattle.walk_pages.proofs.set_bytes.Reads as reads
-use Rattle.walk_pages.proofs.set_bytes.Lts as lts
 
 abbrev Inv-loop : tie.InvT-loop
-Inv-loop bytes₀ byte i₀ bytes i = ?
+Inv-loop bytes₀ byte i₀ bytes i = (i ≤ length bytes₀) × (length bytes ≡ length bytes₀)
 
 abbrev μ-loop : tie.MeasureT-loop
-μ-loop bytes₀ byte i₀ bytes i = ?
+μ-loop bytes₀ byte i₀ bytes i = length bytes₀ - i
 
--- src/lib.rt:229:5
 loop-holds : tie.Need-loop-holds Inv-loop μ-loop
-loop-holds c = ?
+loop-holds c = (omega arith, refl)
 
--- src/lib.rt:230:9
 slice-write-bytes : tie.Need-slice-write-bytes Inv-loop μ-loop
-slice-write-bytes c = ?
+slice-write-bytes c = search needs
 
--- src/lib.rt:231:9
 add-i : tie.Need-add-i Inv-loop μ-loop
-add-i c = ?
+add-i c = search needs
 
--- src/lib.rt:229:5
 loop-less : tie.Need-loop-less Inv-loop μ-loop
-loop-less c = ?
+loop-less c = let l = c .before .loop in let e = l .inv .1 in omega arith
 
--- src/lib.rt:229:5
 loop-again : tie.Need-loop-again Inv-loop μ-loop
-loop-again c = ?
+loop-again c = let l = c .before .loop in let e = l .inv .1 in (omega arith, length-set (l .bytes) (l .i) _ ∙ e)
 
--- src/lib.rt:227:1
 same-length : tie.Need-same-length Inv-loop μ-loop
-same-length c = ?
+same-length c = c .before .loop .inv .1
 
--- src/lib.rt:227:1
 returns : tie.Need-returns Inv-loop μ-loop
-returns c = ?
+returns c = search needs
 
 pub set-bytes-spec : {M : Type 1} → statement M
 set-bytes-spec =
