@@ -1,6 +1,6 @@
 // The walk program: reads at most 64 KiB from standard input and carries out one line after the other.
 ghost use mathlib.Core.Path.{_≡_};
-ghost use Prim.Native.Nat.{_≤_};
+ghost use Prim.Native.Nat.{_+_, _≤_};
 ghost use lib.ListN.{length};
 use kinds::ClauseActivity;
 use kinds::State;
@@ -55,6 +55,17 @@ fn line_end(text: &[u8], from: usize) -> usize
     i
 }
 
+// The place behind a line's end.
+fn behind(text: &[u8], end: usize) -> usize
+    requires { ⌜ end ≤ length (now text) ⌝ }
+    ensures { λ r. ⌜ r ≡ end + 1 ⌝ }
+{
+    if end == text.len() {
+        return text.len() + 1;
+    }
+    end + 1
+}
+
 // Every line of a text, with what it prints on standard output.
 fn walk_through(text: &[u8]) {
     let mut words = [0u32; 16384];
@@ -77,6 +88,7 @@ fn walk_through(text: &[u8]) {
     let mut from = 0;
     while from < text.len() {
         let end = line_end(text, from);
+        let next = behind(text, end);
         let line = walk_lines::read_line(&text[from..end], &mut numbers);
         let printed = walk::carry_out(
             walk,
@@ -100,7 +112,7 @@ fn walk_through(text: &[u8]) {
         );
         walk = printed.walk;
         write_page(&out, printed.filled);
-        from = end + 1;
+        from = next;
     }
 }
 
