@@ -193,12 +193,14 @@ fn add(ctx: &mut Context, c: &Clauses, lits: &[Lit], calls: usize) {
 #[inline(never)]
 #[export_name = "measured_given_add"]
 pub fn add_all(ctx: &mut Context, c: &Clauses, lits: &[Lit]) {
+    crate::distinct(101);
     add(ctx, c, lits, c.len())
 }
 
 #[inline(never)]
 #[export_name = "measured_few_add"]
 pub fn add_few(ctx: &mut Context, c: &Clauses, lits: &[Lit], calls: usize) {
+    crate::distinct(102);
     add(ctx, c, lits, calls)
 }
 
@@ -212,42 +214,49 @@ fn bump(ctx: &mut Context, locals: &[ClauseRef]) {
 #[inline(never)]
 #[export_name = "measured_given_bump"]
 pub fn bump_all(ctx: &mut Context, locals: &[ClauseRef]) {
+    crate::distinct(103);
     bump(ctx, locals)
 }
 
 #[inline(never)]
 #[export_name = "measured_few_bump"]
 pub fn bump_few(ctx: &mut Context, locals: &[ClauseRef]) {
+    crate::distinct(104);
     bump(ctx, locals)
 }
 
 #[inline(never)]
 #[export_name = "measured_given_reduce"]
 pub fn reduce_locals(ctx: &mut Context) {
+    crate::distinct(105);
     reduce::reduce_locals(Ref::new(ctx))
 }
 
 #[inline(never)]
 #[export_name = "measured_silent_reduce"]
 pub fn reduce_locals_silent(ctx: &mut Context) {
+    crate::distinct(106);
     reduce::reduce_locals(Ref::new(ctx))
 }
 
 #[inline(never)]
 #[export_name = "measured_given_collect"]
 pub fn collect_garbage(ctx: &mut Context) {
+    crate::distinct(107);
     gc::collect_garbage(Ref::new(ctx))
 }
 
 #[inline(never)]
 #[export_name = "measured_given_simplify"]
 pub fn simplify(ctx: &mut Context) {
+    crate::distinct(108);
     unit_simplify::unit_simplify(Ref::new(ctx))
 }
 
 #[inline(never)]
 #[export_name = "measured_silent_simplify"]
 pub fn simplify_silent(ctx: &mut Context) {
+    crate::distinct(109);
     unit_simplify::unit_simplify(Ref::new(ctx))
 }
 
@@ -255,5 +264,6 @@ pub fn simplify_silent(ctx: &mut Context) {
 #[inline(never)]
 #[export_name = "measured_loop_simplify"]
 pub fn simplify_nothing(ctx: &mut Context) {
+    crate::distinct(110);
     unit_simplify::unit_simplify(Ref::new(ctx))
 }

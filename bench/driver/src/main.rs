@@ -10,7 +10,7 @@ mod stores;
 use std::time::Instant;
 
 use mirrors::clause_ref;
-use stores::{Clauses, Store};
+use stores::Clauses;
 
 /// Judged calls of adding and bumping that are measured.
 pub const FEW: usize = 10;
@@ -38,9 +38,10 @@ fn measure<T>(
     last.unwrap()
 }
 
-fn judged(what: &str, k: &Store) {
-    let mut judged = k.clone();
-    assert_eq!(ours::judge_five_levels(&mut judged), 0, "{what}");
+/// Keeps the compiler from making one function of two measured ones that do the same.
+#[inline(always)]
+pub fn distinct(number: u32) {
+    std::hint::black_box(number);
 }
 
 fn main() {
@@ -59,7 +60,7 @@ fn main() {
 
     // Adding all clauses to an empty store.
     let empty = c.empty();
-    judged("empty", &empty);
+    assert!(ours::passes(&mut empty.clone()));
     let k = measure(
         runs,
         "step_add",
@@ -86,7 +87,7 @@ fn main() {
 
     // A few more, judged.
     let filled = c.filled();
-    judged("filled", &filled);
+    assert!(ours::passes(&mut filled.clone()));
     println!("few {FEW}");
     let k = measure(
         runs,

@@ -49,37 +49,48 @@ macro_rules! call {
 #[inline(never)]
 #[export_name = "measured_judge_add"]
 pub fn judge_five(k: &mut Store) -> usize {
+    crate::distinct(1);
     call!(bench_judge_five, k, [words clauses irred core mid local])
 }
 
 #[inline(never)]
 #[export_name = "measured_judge_bump"]
 pub fn judge_five_levels(k: &mut Store) -> usize {
+    crate::distinct(2);
     call!(bench_judge_five_levels, k, [words clauses irred core mid local levels])
 }
 
 #[inline(never)]
 #[export_name = "measured_judge_collect"]
 pub fn judge_five_host(k: &mut Store) -> usize {
+    crate::distinct(3);
     call!(bench_judge_five_host, k, [words clauses irred core mid local values kinds reasons levels trail], k.assigned, k.level)
 }
 
 #[inline(never)]
 #[export_name = "measured_judge_reduce"]
 pub fn judge_five_record_host(k: &mut Store) -> usize {
+    crate::distinct(4);
     call!(bench_judge_five_record_host, k, [words clauses irred core mid local rec values kinds reasons levels trail], k.assigned, k.level)
 }
 
 #[inline(never)]
 #[export_name = "measured_judge_simplify"]
 pub fn judge_simplify(k: &mut Store) -> usize {
+    crate::distinct(5);
     judge_all(k)
 }
 
 #[inline(never)]
 #[export_name = "measured_judge_all"]
 pub fn judge_all_of_collect(k: &mut Store) -> usize {
+    crate::distinct(6);
     judge_all(k)
+}
+
+/// Not measured: whether a store passes before it is handed to functions that trust it.
+pub fn passes(k: &mut Store) -> bool {
+    judge_all(k) == 0
 }
 
 #[inline(always)]
@@ -92,6 +103,7 @@ fn judge_all(k: &mut Store) -> usize {
 #[inline(never)]
 #[export_name = "measured_step_add"]
 pub fn step_add(k: &mut Store, c: &Clauses) {
+    crate::distinct(7);
     let mut from = 0;
     for i in 0..c.len() {
         let lits = &c.lits[from..c.ends[i]];
@@ -103,6 +115,7 @@ pub fn step_add(k: &mut Store, c: &Clauses) {
 #[inline(never)]
 #[export_name = "measured_refuse_add"]
 pub fn refuse_add(k: &mut Store, c: &Clauses, calls: usize) -> bool {
+    crate::distinct(8);
     let mut passed = true;
     for i in 0..calls {
         let lits = c.lits(i);
@@ -114,6 +127,7 @@ pub fn refuse_add(k: &mut Store, c: &Clauses, calls: usize) -> bool {
 #[inline(never)]
 #[export_name = "measured_call_add"]
 pub fn call_add(k: &mut Store, c: &Clauses, calls: usize) {
+    crate::distinct(9);
     for i in 0..calls {
         let lits = c.lits(i);
         k.state = call!(bench_add_clause, k, [words clauses irred core mid local], c.tiers[i], c.glues[i], lits.as_ptr(), lits.len());
@@ -125,6 +139,7 @@ pub fn call_add(k: &mut Store, c: &Clauses, calls: usize) {
 #[inline(never)]
 #[export_name = "measured_step_bump"]
 pub fn step_bump(k: &mut Store, locals: &[u32]) {
+    crate::distinct(10);
     for &at in locals {
         k.state = call!(bench_bump, k, [words clauses irred core mid local levels], at);
     }
@@ -133,6 +148,7 @@ pub fn step_bump(k: &mut Store, locals: &[u32]) {
 #[inline(never)]
 #[export_name = "measured_refuse_bump"]
 pub fn refuse_bump(k: &mut Store, locals: &[u32]) -> usize {
+    crate::distinct(11);
     let mut refused = 0;
     for &at in locals {
         refused += call!(bench_refuse_bump, k, [words clauses irred core mid local levels], at);
@@ -143,6 +159,7 @@ pub fn refuse_bump(k: &mut Store, locals: &[u32]) -> usize {
 #[inline(never)]
 #[export_name = "measured_call_bump"]
 pub fn call_bump(k: &mut Store, locals: &[u32]) {
+    crate::distinct(12);
     for &at in locals {
         k.state = call!(bench_bump_clause, k, [words clauses irred core mid local levels], at);
     }
@@ -153,18 +170,21 @@ pub fn call_bump(k: &mut Store, locals: &[u32]) {
 #[inline(never)]
 #[export_name = "measured_step_reduce"]
 pub fn step_reduce(k: &mut Store) {
+    crate::distinct(13);
     k.state = call!(bench_locals, k, [words clauses irred core mid local rec values kinds reasons levels trail], k.assigned, k.level)
 }
 
 #[inline(never)]
 #[export_name = "measured_refuse_reduce"]
 pub fn refuse_reduce(k: &mut Store) -> usize {
+    crate::distinct(14);
     call!(bench_refuse_reduce_locals, k, [words clauses irred core mid local rec values kinds reasons levels trail], k.assigned, k.level)
 }
 
 #[inline(never)]
 #[export_name = "measured_call_reduce"]
 pub fn call_reduce(k: &mut Store) {
+    crate::distinct(15);
     k.state = call!(bench_reduce_locals, k, [words clauses irred core mid local rec values kinds reasons levels trail], k.assigned, k.level)
 }
 
@@ -173,12 +193,14 @@ pub fn call_reduce(k: &mut Store) {
 #[inline(never)]
 #[export_name = "measured_step_collect"]
 pub fn step_collect(k: &mut Store) {
+    crate::distinct(16);
     k.state = call!(bench_collect, k, [words clauses irred core mid local values kinds reasons levels trail], k.assigned, k.level)
 }
 
 #[inline(never)]
 #[export_name = "measured_call_collect"]
 pub fn call_collect(k: &mut Store) {
+    crate::distinct(17);
     k.state = call!(bench_collect_garbage, k, [words clauses irred core mid local values kinds reasons levels trail], k.assigned, k.level)
 }
 
@@ -187,17 +209,20 @@ pub fn call_collect(k: &mut Store) {
 #[inline(never)]
 #[export_name = "measured_step_simplify"]
 pub fn step_simplify(k: &mut Store) {
+    crate::distinct(18);
     k.state = call!(bench_simplify, k, [words clauses irred core mid local rows counts rec values kinds reasons levels trail], k.assigned, k.level)
 }
 
 #[inline(never)]
 #[export_name = "measured_refuse_simplify"]
 pub fn refuse_simplify(k: &mut Store) -> usize {
+    crate::distinct(19);
     call!(bench_refuse_unit_simplify, k, [words clauses irred core mid local rows counts rec values kinds reasons levels trail], k.assigned, k.level)
 }
 
 #[inline(never)]
 #[export_name = "measured_call_simplify"]
 pub fn call_simplify(k: &mut Store) {
+    crate::distinct(20);
     k.state = call!(bench_unit_simplify, k, [words clauses irred core mid local rows counts rec values kinds reasons levels trail], k.assigned, k.level)
 }
