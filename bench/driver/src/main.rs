@@ -48,7 +48,7 @@ fn main() {
     let args: Vec<String> = std::env::args().collect();
     let (mode, n) = (&args[1][..], args[2].parse::<usize>().unwrap());
     let runs = match mode {
-        "time" => 9,
+        "time" => 15,
         "once" => 1,
         _ => panic!("time or once"),
     };
