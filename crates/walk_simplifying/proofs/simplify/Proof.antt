@@ -1,6 +1,6 @@
 use borrow.Author.Needs.{needs}
-use Rattle.walk_cleaning.proofs.simplify.Statement.{statement}
-use Rattle.walk_cleaning.proofs.simplify.Tie as tie
+use Rattle.walk_simplifying.proofs.simplify.Statement.{statement}
+use Rattle.walk_simplifying.proofs.simplify.Tie as tie
 
 lent-vars-requires : tie.Need-lent-vars-requires
 lent-vars-requires c κs = search needs

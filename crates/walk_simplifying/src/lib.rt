@@ -1,0 +1,101 @@
+// `op=units` and `op=simplify`: each lends the parts that `op=room` and V leave of the walk's buffers.
+use walk_kinds::Told;
+use walk_kinds::Walk;
+
+// `op=units`
+pub fn units(
+    walk: Walk,
+    words: &[u32],
+    clauses: &[u32],
+    rec: &mut [u32],
+    values: &[u8],
+    kinds: &mut [u8],
+    reasons: &mut [u32],
+    levels: &[u32],
+    trail: &mut [u32],
+) -> Told {
+    let rooms = walk.rooms;
+    let state = walk.state;
+    let assigned = walk.assigned;
+    let level = walk.level;
+    let vars = walk_kinds::lent_vars(state.vars);
+    let words_lent = walk_kinds::least(rooms.words, words.len());
+    let clauses_lent = walk_kinds::least(rooms.clauses, clauses.len());
+    let rec_lent = walk_kinds::least(rooms.rec, rec.len());
+    let values_lent = walk_kinds::least(vars, values.len());
+    let kinds_lent = walk_kinds::least(vars, kinds.len());
+    let reasons_lent = walk_kinds::least(vars, reasons.len());
+    let levels_lent = walk_kinds::least(vars, levels.len());
+    let reply = unit_simplify::prove_units(
+        state,
+        &words[0..words_lent],
+        &clauses[0..clauses_lent],
+        &mut rec[0..rec_lent],
+        &values[0..values_lent],
+        &mut kinds[0..kinds_lent],
+        &mut reasons[0..reasons_lent],
+        &levels[0..levels_lent],
+        trail,
+        assigned,
+        level,
+    );
+    walk_replies::proved(walk, reply)
+}
+
+// `op=simplify`
+pub fn simplify(
+    walk: Walk,
+    words: &mut [u32],
+    clauses: &mut [u32],
+    irred: &mut [u32],
+    core: &mut [u32],
+    mid: &mut [u32],
+    local: &mut [u32],
+    rows: &mut [u32],
+    counts: &mut [u32],
+    rec: &mut [u32],
+    values: &[u8],
+    kinds: &[u8],
+    reasons: &[u32],
+    levels: &[u32],
+    trail: &[u32],
+) -> Told {
+    let rooms = walk.rooms;
+    let state = walk.state;
+    let assigned = walk.assigned;
+    let level = walk.level;
+    let vars = walk_kinds::lent_vars(state.vars);
+    let words_lent = walk_kinds::least(rooms.words, words.len());
+    let clauses_lent = walk_kinds::least(rooms.clauses, clauses.len());
+    let irred_lent = walk_kinds::least(rooms.irred, irred.len());
+    let core_lent = walk_kinds::least(rooms.core, core.len());
+    let mid_lent = walk_kinds::least(rooms.mid, mid.len());
+    let local_lent = walk_kinds::least(rooms.local, local.len());
+    let rows_lent = walk_kinds::least(rooms.rows, rows.len());
+    let counts_lent = walk_kinds::least(2 * vars, counts.len());
+    let rec_lent = walk_kinds::least(rooms.rec, rec.len());
+    let values_lent = walk_kinds::least(vars, values.len());
+    let kinds_lent = walk_kinds::least(vars, kinds.len());
+    let reasons_lent = walk_kinds::least(vars, reasons.len());
+    let levels_lent = walk_kinds::least(vars, levels.len());
+    let reply = unit_simplify::unit_simplify(
+        state,
+        &mut words[0..words_lent],
+        &mut clauses[0..clauses_lent],
+        &mut irred[0..irred_lent],
+        &mut core[0..core_lent],
+        &mut mid[0..mid_lent],
+        &mut local[0..local_lent],
+        &mut rows[0..rows_lent],
+        &mut counts[0..counts_lent],
+        &mut rec[0..rec_lent],
+        &values[0..values_lent],
+        &kinds[0..kinds_lent],
+        &reasons[0..reasons_lent],
+        &levels[0..levels_lent],
+        trail,
+        assigned,
+        level,
+    );
+    walk_replies::changed(walk, reply)
+}
