@@ -124,6 +124,24 @@ pub extern "C" fn mihorempo_add_binary_clause(
     store_kinds::plain(reply)
 }
 
+// The implied literals of a literal: where they start in the rows, and how many they are.
+#[no_mangle]
+pub extern "C" fn mihorempo_implied(s: State, rows: &[u32], counts: &[u32], lit: u32) -> Part
+    ensures { λ r. ⌜ partGiven (now (rows .entry)) r
+        ≡ partHeard (lit * roomOf (s .vars) (now (rows .entry))) (done (implied lit) (lentRows s (now (rows .entry)) (now (counts .entry)))) ⌝ }
+{
+    store_parts::implied(s, rows, counts, Lit(lit))
+}
+
+// A clause's literals: where they start in the words, and how many they are.
+#[no_mangle]
+pub extern "C" fn mihorempo_clause_lits(s: State, words: &[u32], clauses: &[u32], cref: u32) -> Part
+    ensures { λ r. ⌜ partGiven (now (words .entry)) r
+        ≡ partHeard (cref + 3) (done (literals cref) (lentWords s (now (words .entry)) (now (clauses .entry)) [] noHost)) ⌝ }
+{
+    store_parts::clause_lits(s, words, clauses, ClauseRef(cref))
+}
+
 
 
 #[no_mangle]

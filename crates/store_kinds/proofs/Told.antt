@@ -31,7 +31,7 @@ same-fields {activity} {glue} {len} {t} {u} {d} {e} {m} {n} {c} {b} p q r s =
 
 -- ---- a returned part
 
-abbrev parting : ℕ → ℕ → ℕ → List ℕ → PartHeard
+abbrev pub parting : ℕ → ℕ → ℕ → List ℕ → PartHeard
 parting n start len l = record { number = n; start = start; len = len; lits = l }
 
 -- refused: "A returned part is then empty"

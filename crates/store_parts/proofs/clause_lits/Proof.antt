@@ -1,51 +1,58 @@
+use mathlib.Core.List.{[]}
+use Prim.Native.Nat.{_+_}
+use native.Mathlib.Omega.{arith}
+use Rattle.kinds.specs.Lent.{lentWords, noHost}
+use Rattle.calls.specs.Call.{literals, wordsAndList}
+use Rattle.reading_calls.proofs.Literals.{lends, ready, ends}
+use Rattle.store_parts.proofs.Parts.{judged-few, part-judged, lits-gone, lits-read}
 use borrow.Author.Needs.{needs}
 use Rattle.store_parts.proofs.clause_lits.Statement.{statement}
 use Rattle.store_parts.proofs.clause_lits.Tie as tie
-use Rattle.store_parts.proofs.clause_lits.Reads as reads
-use Rattle.store_parts.proofs.clause_lits.Lts as lts
-use Rattle.buffers.proofs.word.Reads as word-reads
-use Rattle.judge.proofs.judge_list.Reads as judge-list-reads
-use Rattle.judge_words.proofs.is_live.Reads as is-live-reads
 
--- src/lib.rt:50:9
 judge-list-requires : tie.Need-judge-list-requires
 judge-list-requires c κs = search needs
 
--- src/lib.rt:53:21
 cast-t11 : tie.Need-cast-t11
-cast-t11 c = ?
+cast-t11 c =
+    let a = c .before .before .before .before .args in
+    let few = judged-few (literals (a .cref .0)) wordsAndList (lends (a .s) (a .words .now) (a .clauses .now) (a .cref .0)) (lentWords (a .s) (a .words .now) (a .clauses .now) [] noHost) _ (c .before .judge-list .ensures) in
+    omega arith
 
--- src/lib.rt:52:9
 returns : tie.Need-returns
-returns c = ?
+returns c =
+    let a = c .before .before .before .before .args in
+    part-judged (literals (a .cref .0)) wordsAndList (lends (a .s) (a .words .now) (a .clauses .now) (a .cref .0)) (lentWords (a .s) (a .words .now) (a .clauses .now) [] noHost) _ (c .before .judge-list .ensures) (a .words .now) (a .cref .0 + 3) (c .if1 .taken)
 
--- src/lib.rt:58:18
 cast-offset : tie.Need-cast-offset
 cast-offset c = search needs
 
--- src/lib.rt:61:9
 is-live-requires : tie.Need-is-live-requires
-is-live-requires c κs = ?
+is-live-requires c κs =
+    let a = c .before .before .before .before .before .args in
+    let r = ready (a .s) (a .words .now) (a .clauses .now) (a .cref .0) _ (c .before .before .judge-list .ensures) (c .before .if1 .left) in
+    ((r .used, r .listed), r .places)
 
--- src/lib.rt:62:9
 returns-2 : tie.Need-returns-2
-returns-2 c = ?
+returns-2 c =
+    let a = c .before .before .before .before .before .before .before .args in
+    lits-gone (a .s) (a .words .now) (a .clauses .now) (a .cref .0) _ (c .before .before .before .before .judge-list .ensures) (c .before .before .before .if1 .left) _ (c .before .is-live .ensures) (c .if2 .taken)
 
--- src/lib.rt:68:36
 add-word : tie.Need-add-word
 add-word c = search needs
 
--- src/lib.rt:68:9
 word-requires : tie.Need-word-requires
-word-requires c κs = ?
+word-requires c κs =
+    let a = c .before .before .before .before .before .before .before .args in
+    let h = ends (a .s) (a .words .now) (a .clauses .now) (a .cref .0) _ (c .before .before .before .before .judge-list .ensures) (c .before .before .before .if1 .left) _ (c .before .is-live .ensures) (c .if2 .left) in
+    omega arith
 
--- src/lib.rt:71:16
 add-t13 : tie.Need-add-t13
 add-t13 c = search needs
 
--- src/lib.rt:46:1
 returns-3 : tie.Need-returns-3
-returns-3 c = ?
+returns-3 c =
+    let a = c .before .before .before .before .before .before .before .before .args in
+    lits-read (a .s) (a .words .now) (a .clauses .now) (a .cref .0) _ (c .before .before .before .before .before .judge-list .ensures) (c .before .before .before .before .if1 .left) _ (c .before .before .is-live .ensures) (c .before .if2 .left) _ (c .word .ensures .0)
 
 pub clause-lits-spec : {M : Type 1} → statement M
 clause-lits-spec =

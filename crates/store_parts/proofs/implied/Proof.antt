@@ -1,54 +1,75 @@
+use Prim.Native.Nat.{_+_, _*_, _<_, _≤_}
+use native.Mathlib.Omega.{arith}
+use lib.ListN.{length}
+use Rattle.laws.specs.Lists.{at}
+use Rattle.kinds.specs.Lent.{lentRows, roomOf}
+use Rattle.calls.specs.Call.{implied, onlyRows}
+use Rattle.binary_calls.proofs.Reading.{lends, ready}
+use Rattle.store_parts.proofs.Parts.{judged-few, part-judged, implied-wrong, row-ends, implied-read}
 use borrow.Author.Needs.{needs}
 use Rattle.store_parts.proofs.implied.Statement.{statement}
 use Rattle.store_parts.proofs.implied.Tie as tie
-use Rattle.store_parts.proofs.implied.Reads as reads
-use Rattle.store_parts.proofs.implied.Lts as lts
-use Rattle.buffers.proofs.word.Reads as word-reads
-use Rattle.judge.proofs.judge_rows.Reads as judge-rows-reads
 
--- src/lib.rt:19:9
 judge-rows-requires : tie.Need-judge-rows-requires
 judge-rows-requires c κs = search needs
 
--- src/lib.rt:22:21
 cast-t11 : tie.Need-cast-t11
-cast-t11 c = ?
+cast-t11 c =
+    let a = c .before .before .before .before .args in
+    let few = judged-few (implied (a .lit .0)) onlyRows (lends (a .s) (a .rows .now) (a .counts .now) (a .lit .0)) (lentRows (a .s) (a .rows .now) (a .counts .now)) _ (c .before .judge-rows .ensures) in
+    omega arith
 
--- src/lib.rt:21:9
 returns : tie.Need-returns
-returns c = ?
+returns c =
+    let a = c .before .before .before .before .args in
+    part-judged (implied (a .lit .0)) onlyRows (lends (a .s) (a .rows .now) (a .counts .now) (a .lit .0)) (lentRows (a .s) (a .rows .now) (a .counts .now)) _ (c .before .judge-rows .ensures) (a .rows .now) (a .lit .0 * roomOf (a .s .vars) (a .rows .now)) (c .if1 .taken)
 
--- src/lib.rt:28:16
 cast-code : tie.Need-cast-code
 cast-code c = search needs
 
--- src/lib.rt:29:8
 mul-if2 : tie.Need-mul-if2
-mul-if2 c = ?
+mul-if2 c =
+    let a = c .before .before .before .before .before .args in
+    let r = ready (a .s) (a .rows .now) (a .counts .now) (a .lit .0) _ (c .before .before .judge-rows .ensures) (c .before .if1 .left) in
+    let h = r .high in
+    omega arith
 
--- src/lib.rt:30:9
 returns-2 : tie.Need-returns-2
-returns-2 c = ?
+returns-2 c =
+    let a = c .before .before .before .before .before .before .args in
+    implied-wrong (a .s) (a .rows .now) (a .counts .now) (a .lit .0) _ (c .before .before .before .judge-rows .ensures) (c .before .before .if1 .left) (c .if2 .taken)
 
--- src/lib.rt:36:30
 mul-room : tie.Need-mul-room
-mul-room c = ?
+mul-room c =
+    let a = c .before .before .before .before .before .before .args in
+    let r = ready (a .s) (a .rows .now) (a .counts .now) (a .lit .0) _ (c .before .before .before .judge-rows .ensures) (c .before .before .if1 .left) in
+    let h = r .high in
+    omega arith
 
--- src/lib.rt:36:16
 div-room : tie.Need-div-room
 div-room c = search needs
 
--- src/lib.rt:37:9
 word-requires : tie.Need-word-requires
-word-requires c κs = ?
+word-requires c κs =
+    let a = c .before .before .before .before .before .before .args in
+    let r = ready (a .s) (a .rows .now) (a .counts .now) (a .lit .0) _ (c .before .before .before .judge-rows .ensures) (c .before .before .if1 .left) in
+    let long = r .long in
+    let below = c .if2 .left in
+    let h : a .lit .0 < length (a .counts .now) = omega arith in
+    h
 
--- src/lib.rt:40:16
 mul-t12 : tie.Need-mul-t12
-mul-t12 c = ?
+mul-t12 c =
+    let a = c .before .before .before .before .before .before .before .args in
+    let r = ready (a .s) (a .rows .now) (a .counts .now) (a .lit .0) _ (c .before .before .before .before .judge-rows .ensures) (c .before .before .before .if1 .left) in
+    let most = r .most in
+    let h : a .lit .0 * roomOf (a .s .vars) (a .rows .now) + at (a .counts .now) (a .lit .0) ≤ length (a .rows .now) = row-ends (a .s) (a .rows .now) (a .counts .now) (a .lit .0) _ (c .before .before .before .before .judge-rows .ensures) (c .before .before .before .if1 .left) (c .before .if2 .left) in
+    omega arith
 
--- src/lib.rt:15:1
 returns-3 : tie.Need-returns-3
-returns-3 c = ?
+returns-3 c =
+    let a = c .before .before .before .before .before .before .before .args in
+    implied-read (a .s) (a .rows .now) (a .counts .now) (a .lit .0) _ (c .before .before .before .before .judge-rows .ensures) (c .before .before .before .if1 .left) (c .before .if2 .left) _ (c .word .ensures .0)
 
 pub implied-spec : {M : Type 1} → statement M
 implied-spec =
