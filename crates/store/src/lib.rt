@@ -5,7 +5,8 @@ ghost use Prim.Native.Nat.{ℕ, _+_, _*_};
 ghost use Rattle.kinds.specs.Lent.{Lent, lent, lentFive, lentWords, lentRows, lentRecord, lentLevels, lentActivity, hostOf, levelsOnly, noHost, roomOf};
 ghost use Rattle.calls.specs.Call.{addClause, setTier, delete, addBinary, implied, literals, assess, bump, decay, setDecay, reduceLocals, reduceMids, collect, proveUnits, unitSimplify, emptyRecord, viewFields, viewLiteral};
 ghost use Rattle.calls.specs.Outcome.{done, startDone, nothing, fields};
-ghost use Rattle.store_kinds.specs.Heard.{heard, assessedGiven, assessedHeard, fieldsHeard, partGiven, partHeard};
+ghost use Rattle.store_kinds.specs.Heard.{heard, assessedGiven, assessedHeard, fieldsHeard, partGiven, partHeard, stateNumbers};
+ghost use Rattle.laws.specs.Lists.{at};
 use kinds::ClauseActivity;
 use kinds::ClauseRef;
 use kinds::Lit;
@@ -17,7 +18,6 @@ use store_kinds::Part;
 use store_kinds::PlaceNumbers;
 use store_kinds::Reply;
 use store_kinds::UnitsReply;
-
 
 #[no_mangle]
 pub extern "C" fn mihorempo_start(
@@ -37,7 +37,20 @@ pub extern "C" fn mihorempo_start(
     ensures { λ r. ⌜ record { number = r .number; value = r .answer; then = lent (r .state) (now (words .exit)) (now (clauses .exit)) (now (irred .exit)) (now (core .exit)) (now (mid .exit)) (now (local .exit)) (now (rows .exit)) (now (counts .exit)) (now (rec .exit)) noHost }
         ≡ heard (startDone vars decay (lent s (now (words .entry)) (now (clauses .entry)) (now (irred .entry)) (now (core .entry)) (now (mid .entry)) (now (local .entry)) (now (rows .entry)) (now (counts .entry)) (now (rec .entry)) noHost)) ⌝ }
 {
-    let reply = starting::start(s, vars, decay, words, clauses, irred, core, mid, local, rows, counts, rec);
+    let reply = starting::start(
+        s,
+        vars,
+        decay,
+        words,
+        clauses,
+        irred,
+        core,
+        mid,
+        local,
+        rows,
+        counts,
+        rec,
+    );
     store_kinds::plain(reply)
 }
 
@@ -62,7 +75,6 @@ pub extern "C" fn mihorempo_add_clause(
     store_kinds::added(reply)
 }
 
-
 #[no_mangle]
 pub extern "C" fn mihorempo_set_clause_tier(
     s: State,
@@ -78,7 +90,17 @@ pub extern "C" fn mihorempo_set_clause_tier(
     ensures { λ r. ⌜ record { number = r .number; value = r .answer; then = lentFive (r .state) (now (words .exit)) (now (clauses .exit)) (now (irred .exit)) (now (core .exit)) (now (mid .exit)) (now (local .exit)) noHost }
         ≡ heard (done (setTier cref tier) (lentFive s (now (words .entry)) (now (clauses .entry)) (now (irred .entry)) (now (core .entry)) (now (mid .entry)) (now (local .entry)) noHost)) ⌝ }
 {
-    let reply = db::set_clause_tier(s, words, clauses, irred, core, mid, local, ClauseRef(cref), tier);
+    let reply = db::set_clause_tier(
+        s,
+        words,
+        clauses,
+        irred,
+        core,
+        mid,
+        local,
+        ClauseRef(cref),
+        tier,
+    );
     store_kinds::plain(reply)
 }
 
@@ -105,10 +127,26 @@ pub extern "C" fn mihorempo_delete_clause(
     ensures { λ r. ⌜ record { number = r .number; value = r .answer; then = lent (r .state) (now (words .exit)) (now (clauses .exit)) (now (irred .exit)) (now (core .exit)) (now (mid .exit)) (now (local .exit)) [] [] (now (rec .exit)) (hostOf (now (values .entry)) (now (kinds .entry)) (now (reasons .entry)) (now (levels .entry)) (now (trail .entry)) assigned level) }
         ≡ heard (done (delete cref) (lent s (now (words .entry)) (now (clauses .entry)) (now (irred .entry)) (now (core .entry)) (now (mid .entry)) (now (local .entry)) [] [] (now (rec .entry)) (hostOf (now (values .entry)) (now (kinds .entry)) (now (reasons .entry)) (now (levels .entry)) (now (trail .entry)) assigned level))) ⌝ }
 {
-    let reply = delete_calls::delete_clause(s, words, clauses, irred, core, mid, local, rec, values, kinds, reasons, levels, trail, assigned, level, ClauseRef(cref));
+    let reply = delete_calls::delete_clause(
+        s,
+        words,
+        clauses,
+        irred,
+        core,
+        mid,
+        local,
+        rec,
+        values,
+        kinds,
+        reasons,
+        levels,
+        trail,
+        assigned,
+        level,
+        ClauseRef(cref),
+    );
     store_kinds::changed(reply)
 }
-
 
 #[no_mangle]
 pub extern "C" fn mihorempo_add_binary_clause(
@@ -142,8 +180,6 @@ pub extern "C" fn mihorempo_clause_lits(s: State, words: &[u32], clauses: &[u32]
     store_parts::clause_lits(s, words, clauses, ClauseRef(cref))
 }
 
-
-
 #[no_mangle]
 pub extern "C" fn mihorempo_assess_learned_clause(
     vars: usize,
@@ -155,7 +191,6 @@ pub extern "C" fn mihorempo_assess_learned_clause(
     let reply = reading_calls::assess_learned_clause(vars, levels, lits);
     store_kinds::assessed(reply)
 }
-
 
 #[no_mangle]
 pub extern "C" fn mihorempo_bump_clause(
@@ -172,10 +207,19 @@ pub extern "C" fn mihorempo_bump_clause(
     ensures { λ r. ⌜ record { number = r .number; value = r .answer; then = lentFive (r .state) (now (words .exit)) (now (clauses .exit)) (now (irred .exit)) (now (core .exit)) (now (mid .exit)) (now (local .exit)) (levelsOnly (now (levels .entry))) }
         ≡ heard (done (bump cref) (lentFive s (now (words .entry)) (now (clauses .entry)) (now (irred .entry)) (now (core .entry)) (now (mid .entry)) (now (local .entry)) (levelsOnly (now (levels .entry))))) ⌝ }
 {
-    let reply = activity_calls::bump_clause(s, words, clauses, irred, core, mid, local, levels, ClauseRef(cref));
+    let reply = activity_calls::bump_clause(
+        s,
+        words,
+        clauses,
+        irred,
+        core,
+        mid,
+        local,
+        levels,
+        ClauseRef(cref),
+    );
     store_kinds::plain(reply)
 }
-
 
 #[no_mangle]
 pub extern "C" fn mihorempo_decay(
@@ -194,12 +238,8 @@ pub extern "C" fn mihorempo_decay(
     store_kinds::plain(reply)
 }
 
-
 #[no_mangle]
-pub extern "C" fn mihorempo_set_decay(
-    activity: ClauseActivity,
-    decay: f32,
-) -> DecayNumbers
+pub extern "C" fn mihorempo_set_decay(activity: ClauseActivity, decay: f32) -> DecayNumbers
     ensures { λ r. ⌜ record { number = r .number; answer = nothing; then = lentActivity (r .activity) } ≡ done (setDecay decay) (lentActivity activity) ⌝ }
 {
     let reply = activity::set_decay(activity, decay);
@@ -228,10 +268,25 @@ pub extern "C" fn mihorempo_reduce_locals(
     ensures { λ r. ⌜ record { number = r .number; value = r .answer; then = lent (r .state) (now (words .exit)) (now (clauses .exit)) (now (irred .exit)) (now (core .exit)) (now (mid .exit)) (now (local .exit)) [] [] (now (rec .exit)) (hostOf (now (values .entry)) (now (kinds .entry)) (now (reasons .entry)) (now (levels .entry)) (now (trail .entry)) assigned level) }
         ≡ heard (done reduceLocals (lent s (now (words .entry)) (now (clauses .entry)) (now (irred .entry)) (now (core .entry)) (now (mid .entry)) (now (local .entry)) [] [] (now (rec .entry)) (hostOf (now (values .entry)) (now (kinds .entry)) (now (reasons .entry)) (now (levels .entry)) (now (trail .entry)) assigned level))) ⌝ }
 {
-    let reply = reduce_calls::reduce_locals(s, words, clauses, irred, core, mid, local, rec, values, kinds, reasons, levels, trail, assigned, level);
+    let reply = reduce_calls::reduce_locals(
+        s,
+        words,
+        clauses,
+        irred,
+        core,
+        mid,
+        local,
+        rec,
+        values,
+        kinds,
+        reasons,
+        levels,
+        trail,
+        assigned,
+        level,
+    );
     store_kinds::changed(reply)
 }
-
 
 #[no_mangle]
 pub extern "C" fn mihorempo_reduce_mids(
@@ -271,7 +326,22 @@ pub extern "C" fn mihorempo_collect_garbage(
     ensures { λ r. ⌜ record { number = r .number; value = r .answer; then = lentFive (r .state) (now (words .exit)) (now (clauses .exit)) (now (irred .exit)) (now (core .exit)) (now (mid .exit)) (now (local .exit)) (hostOf (now (values .entry)) (now (kinds .entry)) (now (reasons .exit)) (now (levels .entry)) (now (trail .entry)) assigned level) }
         ≡ heard (done collect (lentFive s (now (words .entry)) (now (clauses .entry)) (now (irred .entry)) (now (core .entry)) (now (mid .entry)) (now (local .entry)) (hostOf (now (values .entry)) (now (kinds .entry)) (now (reasons .entry)) (now (levels .entry)) (now (trail .entry)) assigned level))) ⌝ }
 {
-    let reply = gc::collect_garbage(s, words, clauses, irred, core, mid, local, values, kinds, reasons, levels, trail, assigned, level);
+    let reply = gc::collect_garbage(
+        s,
+        words,
+        clauses,
+        irred,
+        core,
+        mid,
+        local,
+        values,
+        kinds,
+        reasons,
+        levels,
+        trail,
+        assigned,
+        level,
+    );
     store_kinds::changed(reply)
 }
 
@@ -293,7 +363,19 @@ pub extern "C" fn mihorempo_prove_units(
     ensures { λ r. ⌜ record { number = r .number; value = r .answer; then = lentWords (r .state) (now (words .entry)) (now (clauses .entry)) (now (rec .exit)) (hostOf (now (values .entry)) (now (kinds .exit)) (now (reasons .exit)) (now (levels .entry)) (now (trail .exit)) (r .assigned) level) }
         ≡ heard (done proveUnits (lentWords s (now (words .entry)) (now (clauses .entry)) (now (rec .entry)) (hostOf (now (values .entry)) (now (kinds .entry)) (now (reasons .entry)) (now (levels .entry)) (now (trail .entry)) assigned level))) ⌝ }
 {
-    let reply = unit_simplify::prove_units(s, words, clauses, rec, values, kinds, reasons, levels, trail, assigned, level);
+    let reply = unit_simplify::prove_units(
+        s,
+        words,
+        clauses,
+        rec,
+        values,
+        kinds,
+        reasons,
+        levels,
+        trail,
+        assigned,
+        level,
+    );
     store_kinds::proved(reply)
 }
 
@@ -321,16 +403,30 @@ pub extern "C" fn mihorempo_unit_simplify(
     ensures { λ r. ⌜ record { number = r .number; value = r .answer; then = lent (r .state) (now (words .exit)) (now (clauses .exit)) (now (irred .exit)) (now (core .exit)) (now (mid .exit)) (now (local .exit)) (now (rows .exit)) (now (counts .exit)) (now (rec .exit)) (hostOf (now (values .entry)) (now (kinds .entry)) (now (reasons .entry)) (now (levels .entry)) (now (trail .entry)) assigned level) }
         ≡ heard (done unitSimplify (lent s (now (words .entry)) (now (clauses .entry)) (now (irred .entry)) (now (core .entry)) (now (mid .entry)) (now (local .entry)) (now (rows .entry)) (now (counts .entry)) (now (rec .entry)) (hostOf (now (values .entry)) (now (kinds .entry)) (now (reasons .entry)) (now (levels .entry)) (now (trail .entry)) assigned level))) ⌝ }
 {
-    let reply = unit_simplify::unit_simplify(s, words, clauses, irred, core, mid, local, rows, counts, rec, values, kinds, reasons, levels, trail, assigned, level);
+    let reply = unit_simplify::unit_simplify(
+        s,
+        words,
+        clauses,
+        irred,
+        core,
+        mid,
+        local,
+        rows,
+        counts,
+        rec,
+        values,
+        kinds,
+        reasons,
+        levels,
+        trail,
+        assigned,
+        level,
+    );
     store_kinds::changed(reply)
 }
 
-
 #[no_mangle]
-pub extern "C" fn mihorempo_empty_record(
-    s: State,
-    rec: &mut [u32],
-) -> Reply
+pub extern "C" fn mihorempo_empty_record(s: State, rec: &mut [u32]) -> Reply
     ensures { λ r. ⌜ record { number = r .number; value = r .answer; then = lentRecord (r .state) (now (rec .exit)) }
         ≡ heard (done emptyRecord (lentRecord s (now (rec .entry)))) ⌝ }
 {
@@ -338,25 +434,26 @@ pub extern "C" fn mihorempo_empty_record(
     store_kinds::plain(reply)
 }
 
-
 #[no_mangle]
-pub extern "C" fn mihorempo_view_fields(
-    words: &[u32],
-) -> FieldNumbers
+pub extern "C" fn mihorempo_view_fields(words: &[u32]) -> FieldNumbers
     ensures { λ r. ⌜ ((k : Lent) → record { number = 0; answer = fields (fieldsHeard r); then = k } ≡ done (viewFields (now (words .entry))) k) ⌝ }
 {
     let reply = view::view_fields(words);
     store_kinds::fields_shown(reply)
 }
 
-
 #[no_mangle]
-pub extern "C" fn mihorempo_view_literal(
-    words: &[u32],
-    place: usize,
-) -> PlaceNumbers
+pub extern "C" fn mihorempo_view_literal(words: &[u32], place: usize) -> PlaceNumbers
     ensures { λ r. ⌜ ((k : Lent) → record { number = r .number; value = r .literal; then = k } ≡ heard (done (viewLiteral (now (words .entry)) place) k)) ⌝ }
 {
     let reply = view::view_literal(words, place);
     store_kinds::place_shown(reply)
+}
+
+// Number `place` of the state, 0 past the last: by this a caller sees at start-up that each field of its own declaration arrives in its place.
+#[no_mangle]
+pub extern "C" fn mihorempo_state_number(s: State, place: usize) -> usize
+    ensures { λ r. ⌜ r ≡ at (stateNumbers s) place ⌝ }
+{
+    store_kinds::state_number(s, place)
 }

@@ -7,10 +7,11 @@ use native.Mathlib.Omega.{arith}
 use lib.ListN.{length, take, drop}
 use lib.Dec.{eqb}
 use borrow.Author.Tests.{ne-eqb}
-use Rattle.kinds.specs.Lent.{Lent, Host, lent}
+use Rattle.kinds.specs.Lent.{Lent, Host, lent, lentWords, lentActivity, hostOf}
+use Rattle.kinds.specs.declared.ClauseActivity.{ClauseActivity}
 use Rattle.kinds.specs.declared.State.{State}
 use Rattle.calls.specs.Viewing.{Fields}
-use Rattle.calls.specs.Outcome.{Outcome, Answer, partOf}
+use Rattle.calls.specs.Outcome.{Outcome, Answer, nothing, fields, partOf}
 use Rattle.store_kinds.specs.Heard.{value, Heard, heard, PartHeard, partHeard, AssessedHeard, assessedHeard, tierSaid, glueSaid}
 
 abbrev hearing : ℕ → ℕ → Lent → Heard
@@ -55,3 +56,25 @@ pub assessed-told : {n m t g : ℕ} {x : Answer} {k : Lent} {o : Outcome} → n 
 assessed-told {n} {m} {t} {g} {x} e f h d =
     let a : ℕ → ℕ → ℕ → AssessedHeard = λ (i : ℕ) (j : ℕ) (l : ℕ). record { number = i; tier = j; glue = l } in
     ap (λ (y : ℕ). a y t g) e ∙ ap (λ (y : ℕ). a m y g) f ∙ ap (λ (y : ℕ). a m (tierSaid x) y) h ∙ ap assessedHeard d
+
+-- ---- the trail's used length given back too
+
+pub units-told : {n m a d e level : ℕ} {x : Answer} {s t : State} {words clauses rec values kinds reasons levels trail : List ℕ} {o : Outcome} → n ≡ m → a ≡ value x → s ≡ t → d ≡ e → record { number = m; answer = x; then = lentWords t words clauses rec (hostOf values kinds reasons levels trail e level) } ≡ o → record { number = n; value = a; then = lentWords s words clauses rec (hostOf values kinds reasons levels trail d level) } ≡ heard o
+units-told {n} {m} {a} {d} {e} {level} {x} {s} {t} {words} {clauses} {rec} {values} {kinds} {reasons} {levels} {trail} p q r u h =
+    let k : ℕ → Lent = λ (y : ℕ). lentWords s words clauses rec (hostOf values kinds reasons levels trail y level) in
+    ap (λ (y : ℕ). hearing n a (k y)) u ∙ told p q r h
+
+-- ---- setting the decay, and a view's place
+
+pub decay-told : {n m : ℕ} {a b : ClauseActivity} {o : Outcome} → n ≡ m → a ≡ b → record { number = m; answer = nothing; then = lentActivity b } ≡ o → record { number = n; answer = nothing; then = lentActivity a } ≡ o
+decay-told {n} {m} {a} {b} e f d =
+    let out : ℕ → ClauseActivity → Outcome = λ (y : ℕ) (z : ClauseActivity). record { number = y; answer = nothing; then = lentActivity z } in
+    ap (λ (y : ℕ). out y a) e ∙ ap (λ (z : ClauseActivity). out m z) f ∙ d
+
+pub place-told : {n m l : ℕ} {x : Answer} {k : Lent} {o : Outcome} → n ≡ m → l ≡ value x → record { number = m; answer = x; then = k } ≡ o → record { number = n; value = l; then = k } ≡ heard o
+place-told {n} {m} {l} {x} {k} e f d = ap (λ (y : ℕ). hearing y l k) e ∙ ap (λ (y : ℕ). hearing m y k) f ∙ ap heard d
+
+pub fields-told : {f g : Fields} {k : Lent} {o : Outcome} → f ≡ g → record { number = 0; answer = fields g; then = k } ≡ o → record { number = 0; answer = fields f; then = k } ≡ o
+fields-told {f} {g} {k} e d =
+    let out : Fields → Outcome = λ (y : Fields). record { number = 0; answer = fields y; then = k } in
+    ap out e ∙ d

@@ -167,23 +167,23 @@ unfolding stateNumbers
 returns-17 c =
     let a = c .before .before .before .before .before .before .args in
     let past : length (stateNumbers (a .s)) ≤ a .place =
-        above (a .place) 15 (c .match .rest .1)
-        (above (a .place) 14 (c .match .rest .0 .1)
-        (above (a .place) 13 (c .match .rest .0 .0 .1)
-        (above (a .place) 12 (c .match .rest .0 .0 .0 .1)
-        (above (a .place) 11 (c .match .rest .0 .0 .0 .0 .1)
-        (above (a .place) 10 (c .match .rest .0 .0 .0 .0 .0 .1)
-        (above (a .place) 9 (c .match .rest .0 .0 .0 .0 .0 .0 .1)
-        (above (a .place) 8 (c .match .rest .0 .0 .0 .0 .0 .0 .0 .1)
-        (above (a .place) 7 (c .match .rest .0 .0 .0 .0 .0 .0 .0 .0 .1)
-        (above (a .place) 6 (c .match .rest .0 .0 .0 .0 .0 .0 .0 .0 .0 .1)
-        (above (a .place) 5 (c .match .rest .0 .0 .0 .0 .0 .0 .0 .0 .0 .0 .1)
-        (above (a .place) 4 (c .match .rest .0 .0 .0 .0 .0 .0 .0 .0 .0 .0 .0 .1)
-        (above (a .place) 3 (c .match .rest .0 .0 .0 .0 .0 .0 .0 .0 .0 .0 .0 .0 .1)
-        (above (a .place) 2 (c .match .rest .0 .0 .0 .0 .0 .0 .0 .0 .0 .0 .0 .0 .0 .1)
-        (above (a .place) 1 (c .match .rest .0 .0 .0 .0 .0 .0 .0 .0 .0 .0 .0 .0 .0 .0 .1)
-        (above (a .place) 0 (c .match .rest .0 .0 .0 .0 .0 .0 .0 .0 .0 .0 .0 .0 .0 .0 .0 .1)
-        (from-zero (a .place))))))))))))))))) in
+    above (a .place) 15 (c .match .rest .1)
+    (above (a .place) 14 (c .match .rest .0 .1)
+    (above (a .place) 13 (c .match .rest .0 .0 .1)
+    (above (a .place) 12 (c .match .rest .0 .0 .0 .1)
+    (above (a .place) 11 (c .match .rest .0 .0 .0 .0 .1)
+    (above (a .place) 10 (c .match .rest .0 .0 .0 .0 .0 .1)
+    (above (a .place) 9 (c .match .rest .0 .0 .0 .0 .0 .0 .1)
+    (above (a .place) 8 (c .match .rest .0 .0 .0 .0 .0 .0 .0 .1)
+    (above (a .place) 7 (c .match .rest .0 .0 .0 .0 .0 .0 .0 .0 .1)
+    (above (a .place) 6 (c .match .rest .0 .0 .0 .0 .0 .0 .0 .0 .0 .1)
+    (above (a .place) 5 (c .match .rest .0 .0 .0 .0 .0 .0 .0 .0 .0 .0 .1)
+    (above (a .place) 4 (c .match .rest .0 .0 .0 .0 .0 .0 .0 .0 .0 .0 .0 .1)
+    (above (a .place) 3 (c .match .rest .0 .0 .0 .0 .0 .0 .0 .0 .0 .0 .0 .0 .1)
+    (above (a .place) 2 (c .match .rest .0 .0 .0 .0 .0 .0 .0 .0 .0 .0 .0 .0 .0 .1)
+    (above (a .place) 1 (c .match .rest .0 .0 .0 .0 .0 .0 .0 .0 .0 .0 .0 .0 .0 .0 .1)
+    (above (a .place) 0 (c .match .rest .0 .0 .0 .0 .0 .0 .0 .0 .0 .0 .0 .0 .0 .0 .0 .1)
+    (from-zero (a .place))))))))))))))))) in
     sym (List·getD-eq-default (stateNumbers (a .s)) 0 past)
 
 pub state-number-spec : {M : Type 1} → statement M
