@@ -10,7 +10,7 @@
 //! - [`ffi`] has the declarations; [`layout`] checks them against a table and against the library, before the first store is made.
 //!
 //! `examples/toy_search.rs` drives a small search through it.
-#![warn(missing_docs)]
+#![deny(missing_docs)]
 #![deny(unsafe_op_in_unsafe_fn)]
 
 pub mod ffi;
