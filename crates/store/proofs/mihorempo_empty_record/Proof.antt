@@ -10,7 +10,7 @@ plain-requires : tie.Need-plain-requires
 plain-requires c κs = search needs
 
 same-length : tie.Need-same-length
-same-length c = search needs
+same-length c = c .before .before .before .empty-record .kept .1 .0
 
 returns : tie.Need-returns
 returns c = told (c .plain .ensures .0) (c .plain .ensures .1) (c .plain .ensures .2) (c .before .before .before .empty-record .ensures)
