@@ -80,7 +80,8 @@ impl Host {
         self.levels[var.0 as usize] as usize
     }
 
-    /// Begins a new level. Levels go up to the number of variables.
+    /// Begins a new level. Above the number of variables every call that is lent the levels or the trail is refused with
+    /// [`crate::Refusal::Host`].
     pub fn new_level(&mut self) {
         self.level += 1;
     }

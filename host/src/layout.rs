@@ -44,7 +44,7 @@ table! {
     PlaceNumbers size 8 align 4 { number 0, literal 4 }
 }
 
-/// A state whose sixteen numbers all differ. It passes nowhere: its clauses list is longer than any buffer.
+/// A state whose sixteen numbers all differ; its used lengths are above the buffers that are lent with it here.
 fn probe() -> State {
     State {
         vars: 101,
