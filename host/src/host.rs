@@ -80,7 +80,7 @@ impl Host {
         self.levels[var.0 as usize] as usize
     }
 
-    /// Begins a new level. Above the number of variables every call that is lent the levels or the trail is refused with
+    /// Begins a new level. One above the number of variables does not pass: a call that is lent it is refused with
     /// [`crate::Refusal::Host`].
     pub fn new_level(&mut self) {
         self.level += 1;
