@@ -1,2 +1,3 @@
 pub mod Glue
 pub mod Ready
+pub mod Short

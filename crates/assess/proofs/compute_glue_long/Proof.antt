@@ -9,8 +9,8 @@ use Rattle.laws.specs.Lists.{at}
 use Rattle.kinds.specs.Clauses.{varOf}
 use Rattle.calls.specs.Bumping.{levelOf, levelNew, glueFor}
 use Rattle.assess.proofs.Glue.{Marked, marked-none, marked-new, counted-new, marked-old, counted-old}
-use Rattle.assess.proofs.compute_glue.Statement.{statement}
-use Rattle.assess.proofs.compute_glue.Tie as tie
+use Rattle.assess.proofs.compute_glue_long.Statement.{statement}
+use Rattle.assess.proofs.compute_glue_long.Tie as tie
 
 abbrev Inv-loop : tie.InvT-loop
 Inv-loop levels lits seen₀ glue₀ i₀ seen glue i = (i ≤ length lits) × (glue ≤ i) × Marked levels lits seen i × (glue ≡ countBelow (levelNew levels lits) i)
@@ -96,8 +96,8 @@ returns c =
     let s = c .before .before in
     l .inv .3 ∙ ap (countBelow (levelNew (s .args .levels .now) (s .args .lits .now))) (le-antisymm (l .inv .0) (c .loop-test .left))
 
-pub compute-glue-spec : {M : Type 1} → statement M
-compute-glue-spec =
+pub compute-glue-long-spec : {M : Type 1} → statement M
+compute-glue-long-spec =
     tie.close
     (tie.spec
     Inv-loop
