@@ -1,6 +1,5 @@
 use Rattle.db.proofs.Adding.{short, long, by-literals}
 use native.Mathlib.Omega.{arith}
-use borrow.Author.Needs.{needs}
 use Rattle.db.proofs.clause_wrong.Statement.{statement}
 use Rattle.db.proofs.clause_wrong.Tie as tie
 
