@@ -32,6 +32,9 @@ fn clause_wrong(vars: usize, lits: &[u32]) -> bool
     if vars < n {
         return true;
     }
+    if n <= short_lits::MOST {
+        return !short_lits::lits_pass(vars, lits);
+    }
     !judge_words::lits_pass(vars, lits)
 }
 
