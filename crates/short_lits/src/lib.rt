@@ -27,7 +27,6 @@ fn var_new(lits: &[u32], j: usize) -> bool
 // In range, with different variables.
 pub fn lits_pass(vars: usize, lits: &[u32]) -> bool
     requires { ⌜ vars ≤ 65536 ⌝ }
-    requires { ⌜ length (now lits) ≤ 32 ⌝ }
     ensures { λ r. ⌜ r ≡ litsOk (now (lits .entry)) vars 0 (length (now (lits .entry))) ⌝ }
 {
     let mut j = 0usize;

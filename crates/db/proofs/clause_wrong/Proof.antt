@@ -10,7 +10,7 @@ returns-2 : tie.Need-returns-2
 returns-2 c = long (c .before .before .before .args .vars) (c .before .before .before .args .lits .now) (omega arith) (c .if2 .taken)
 
 lits-pass-requires : tie.Need-lits-pass-requires
-lits-pass-requires c κs = (c .before .before .before .before .pre, c .if3 .taken)
+lits-pass-requires c κs = c .before .before .before .before .pre
 
 returns-3 : tie.Need-returns-3
 returns-3 c = let s = c .before .before .before .before .before in by-literals (s .args .vars) (s .args .lits .now) (omega arith) (omega arith) (c .lits-pass .ensures)

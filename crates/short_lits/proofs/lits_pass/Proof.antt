@@ -25,7 +25,7 @@ cast-lit : tie.Need-cast-lit Inv-loop μ-loop
 cast-lit c = omega (arith, c .shared-slice-known2 .given (c .before .before .loop .j))
 
 mul-if1 : tie.Need-mul-if1 Inv-loop μ-loop
-mul-if1 c = omega (arith, c .before .before .before .before .pre .0)
+mul-if1 c = omega (arith, c .before .before .before .before .pre)
 
 returns : tie.Need-returns Inv-loop μ-loop
 returns c =
