@@ -98,7 +98,7 @@ fn group_of(line: Line) -> u32 {
     }
 }
 
-// A line of a walk. The page is filled from its start.
+// A line that was read is carried out. The page is filled from its start.
 pub fn carry_out(
     walk: Walk,
     line: Line,
@@ -229,4 +229,48 @@ pub fn carry_out(
         ),
         _ => walk_said::page(walk, walk_show::answer(out, 0, b"none", 99)),
     }
+}
+
+// A line of bytes, whatever they are, is read and carried out. The page is filled from its start.
+pub fn walk_line(
+    walk: Walk,
+    text: &[u8],
+    numbers: &mut [u32; 2048],
+    words: &mut [u32; 16384],
+    clauses: &mut [u32; 4096],
+    irred: &mut [u32; 4096],
+    core: &mut [u32; 4096],
+    mid: &mut [u32; 4096],
+    local: &mut [u32; 4096],
+    rows: &mut [u32; 16384],
+    counts: &mut [u32; 2048],
+    rec: &mut [u32; 16384],
+    values: &mut [u8; 1024],
+    kinds: &mut [u8; 1024],
+    reasons: &mut [u32; 1024],
+    levels: &mut [u32; 1024],
+    trail: &mut [u32; 1024],
+    out: &mut [u8; 1048576],
+) -> Printed {
+    let line = walk_lines::read_line(text, numbers);
+    carry_out(
+        walk,
+        line,
+        numbers,
+        words,
+        clauses,
+        irred,
+        core,
+        mid,
+        local,
+        rows,
+        counts,
+        rec,
+        values,
+        kinds,
+        reasons,
+        levels,
+        trail,
+        out,
+    )
 }

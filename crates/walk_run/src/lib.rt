@@ -89,11 +89,10 @@ fn walk_through(text: &[u8]) {
     while from < text.len() {
         let end = line_end(text, from);
         let next = behind(text, end);
-        let line = walk_lines::read_line(&text[from..end], &mut numbers);
-        let printed = walk::carry_out(
+        let printed = walk::walk_line(
             walk,
-            line,
-            &numbers,
+            &text[from..end],
+            &mut numbers,
             &mut words,
             &mut clauses,
             &mut irred,
