@@ -1,4 +1,6 @@
 // Activity: activity.rs, and assess.rs where a clause is bumped. Each call judges what it is lent, then looks for its own refusal, then takes its step.
+#![tactic(auto)]
+
 ghost use Rattle.std.specs.Prelude.{◌≡◌};
 ghost use Rattle.kinds.specs.Lent.{lent_five, levels_only, no_host};
 ghost use Rattle.calls.specs.Call.{bump, decay};

@@ -1,4 +1,6 @@
 // The steps of activity.rs and assess.rs that change a store, on what is lent. Each stands on what the judging and the refusals have established.
+#![tactic(auto)]
+
 ghost use Rattle.std.specs.Prelude.{◌≡◌, [], true, ℕ, ◌+◌, ◌≤◌, ◌<◌, ◌^◌, length};
 ghost use Rattle.kinds.specs.Header.{with_active, with_glue};
 ghost use Rattle.kinds.specs.Clauses.{lits_at, end_at, change_head};

@@ -1,4 +1,6 @@
 // Whether a clause is asserting.
+#![tactic(auto)]
+
 ghost use Rattle.std.specs.Prelude.{◌≡◌, ℕ, ◌+◌, ◌<◌, length};
 ghost use Rattle.kinds.specs.Clauses.{first_at, var_of};
 ghost use Rattle.asserting.specs.Reads.{asserting_in};

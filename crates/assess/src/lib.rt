@@ -1,4 +1,6 @@
 // Glue and assessing: the number of different levels, the tier by glue.
+#![tactic(auto)]
+
 ghost use Rattle.std.specs.Prelude.{◌≡◌, ◌<◌, length};
 ghost use Rattle.kinds.specs.Header.{saturated};
 ghost use Rattle.kinds.specs.Numbers.{tier_number};

@@ -1,4 +1,6 @@
 // What the benchmark calls: the judging alone, the steps below it, what a step is refused for, and the whole judged calls, exported for a host. For measuring only: a function that has a `requires` trusts its caller to have judged before.
+#![tactic(auto)]
+
 ghost use Rattle.std.specs.Prelude.{◌≡◌, [], ℕ, ◌≤◌};
 ghost use Rattle.kinds.specs.Lent.{lent, lent_five, levels_only, host_of, no_host};
 ghost use Rattle.calls.specs.Call.{add_clause, bump, reduce_locals, collect, unit_simplify, five_lists, five_lists_levels, five_lists_host, five_lists_record_host, everything};

@@ -1,4 +1,6 @@
 // Binary clauses in rows: binary.rs.
+#![tactic(auto)]
+
 ghost use Rattle.std.specs.Prelude.{◌≡◌, ℕ, ◌+◌, ◌*◌, ◌≤◌, ◌<◌, ◌^◌, length, set, take, drop};
 ghost use Rattle.laws.specs.Lists.{at, list_at, more, lengths};
 ghost use Rattle.kinds.specs.Clauses.{neg};

@@ -1,4 +1,6 @@
 // Adding binary clauses and reading implied literals: binary.rs. Each call judges what it is lent, then looks for its own refusals, then takes its step.
+#![tactic(auto)]
+
 ghost use Rattle.std.specs.Prelude.{◌≡◌, ℕ, ◌<◌, ◌≤◌, length, leb};
 ghost use Rattle.laws.specs.Lists.{at};
 ghost use Rattle.kinds.specs.Lent.{lent_rows, room_of};

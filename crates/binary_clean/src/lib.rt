@@ -1,4 +1,6 @@
 // Cleaning of binary.rs: "Cleaning, no call of its own, goes by ascending code, in row order: an assigned literal's row empties, another keeps its unassigned literals."
+#![tactic(auto)]
+
 ghost use Rattle.std.specs.Prelude.{◌≡◌, Bool, List, ℕ, ◌+◌, ◌*◌, ◌≤◌, ◌<◌, length, take};
 ghost use Rattle.std.proofs.lemmas.List.Edits.{sets};
 ghost use Rattle.laws.specs.Lists.{at, lengths, joined, fill};

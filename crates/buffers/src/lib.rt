@@ -1,4 +1,6 @@
 // Reading, writing, copying and clearing in lent buffers.
+#![tactic(auto)]
+
 ghost use Rattle.std.specs.Prelude.{◌≡◌, ℕ, ◌+◌, ◌-◌, ◌≤◌, ◌<◌, ◌^◌, length, set, replicate};
 ghost use Rattle.std.proofs.lemmas.List.Edits.{sets};
 ghost use Rattle.laws.specs.Lists.{at, read_n};

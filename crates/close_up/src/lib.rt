@@ -1,4 +1,6 @@
 // gc.rs on words and lists: "Live clauses keep their order and close up; tier lists are rebuilt in that order; long reasons on the trail follow".
+#![tactic(auto)]
+
 ghost use Rattle.std.specs.Prelude.{◌≡◌, true, ℕ, ◌+◌, ◌≤◌, ◌<◌, ◌^◌, length, take};
 ghost use Rattle.laws.specs.Lists.{at, joined, starts, fill};
 ghost use Rattle.kinds.specs.Clauses.{undeleted, var_of};

@@ -1,4 +1,6 @@
 // Adding a long clause and setting its tier: db.rs. Each call judges what it is lent, then looks for its own refusals, then takes its step.
+#![tactic(auto)]
+
 ghost use Rattle.std.specs.Prelude.{◌≡◌, not, ◌&&◌, ◌||◌, ℕ, ◌≤◌, ◌<◌, length, eqb};
 ghost use Rattle.kinds.specs.Clauses.{tier_at};
 ghost use Rattle.kinds.specs.Lent.{lent_five, no_host};

@@ -1,4 +1,6 @@
 // The steps of db.rs, on what is lent. Each stands on what the judging and the refusals have established.
+#![tactic(auto)]
+
 ghost use Rattle.std.specs.Prelude.{◌≡◌, [], ℕ};
 ghost use Rattle.kinds.specs.Lent.{lent, lent_five, host_of, no_host};
 ghost use Rattle.kinds.specs.Layout.{view, lay};

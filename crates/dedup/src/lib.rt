@@ -1,4 +1,6 @@
 // Dropping the stale and repeated entries of a tier's list in place, by means of the mark bit, as the source's `dedup_and_mark_by_tier`; the marks are taken away again.
+#![tactic(auto)]
+
 ghost use Rattle.std.specs.Prelude.{◌≡◌, List, [], ◌++◌, ℕ, ◌+◌, ◌%◌, ◌<◌, ◌≤◌, eqb, length, take, drop};
 ghost use Rattle.dedup.specs.Marks.{Entries, Marked, Unmarkable, Kept};
 

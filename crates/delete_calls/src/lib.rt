@@ -1,4 +1,6 @@
 // Deleting: db.rs. The call judges what it is lent, then looks for its own refusals, then takes its step.
+#![tactic(auto)]
+
 ghost use Rattle.std.specs.Prelude.{◌≡◌, []};
 ghost use Rattle.kinds.specs.Lent.{lent, host_of};
 ghost use Rattle.calls.specs.Call.{delete};

@@ -1,4 +1,6 @@
 // The refusals of deletion, known before anything is written.
+#![tactic(auto)]
+
 ghost use Rattle.std.specs.Prelude.{◌≡◌, []};
 ghost use Rattle.kinds.specs.Lent.{lent, host_of};
 ghost use Rattle.calls.specs.Call.{delete, five_lists_record_host};

@@ -1,4 +1,6 @@
 // Collecting: gc.rs. The call judges what it is lent, then looks for its own refusal, then takes its step.
+#![tactic(auto)]
+
 ghost use Rattle.std.specs.Prelude.{◌≡◌, ℕ};
 ghost use Rattle.kinds.specs.Lent.{lent_five, host_of};
 ghost use Rattle.calls.specs.Call.{collect};

@@ -1,4 +1,6 @@
 // The step of gc.rs, on what is lent. It stands on what the judging has established; a collection never lacks room.
+#![tactic(auto)]
+
 ghost use Rattle.std.specs.Prelude.{◌≡◌, [], ℕ, ◌+◌, ◌≤◌, ◌<◌, length, take};
 ghost use Rattle.laws.specs.Lists.{at, list_at, lengths, fill_each};
 ghost use Rattle.kinds.specs.Lent.{lent_five, host_of};

@@ -1,4 +1,6 @@
 // The judging: refusals 1, 2 and 3 for each set of parts that a call is lent. The mark bits set on the way are cleared again: every lent word is as it was.
+#![tactic(auto)]
+
 ghost use Rattle.std.specs.Prelude.{◌≡◌, [], ℕ};
 ghost use Rattle.kinds.specs.Lent.{lent, lent_rows, lent_record, lent_levels, levels_only, host_of, no_host};
 ghost use Rattle.calls.specs.Call.{words_and_list, five_lists, five_lists_levels, five_lists_host, five_lists_record_host, words_record_host, everything, only_rows, only_record, only_levels};

@@ -1,4 +1,6 @@
 // A passing store of 10000 clauses is built and judged; the judging's number is written.
+#![tactic(auto)]
+
 fn main() {
     let mut words = [0u32; 70000];
     let mut clauses = [0u32; 10000];

@@ -1,4 +1,6 @@
 // A passing store of 20000 clauses is built and judged; the judging's number is written.
+#![tactic(auto)]
+
 fn main() {
     let mut words = [0u32; 140000];
     let mut clauses = [0u32; 20000];

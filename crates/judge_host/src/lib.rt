@@ -1,4 +1,6 @@
 // Judging the host's side: "The host's side passes if ..".
+#![tactic(auto)]
+
 ghost use Rattle.std.specs.Prelude.{◌≡◌, true, ◌&&◌, ℕ, ◌+◌, ◌*◌, ◌≤◌, ◌<◌, ◌^◌, length, take, leb};
 ghost use Rattle.laws.specs.Fold.{all_below};
 ghost use Rattle.laws.specs.Lists.{at};

@@ -1,4 +1,6 @@
 // The judging in three pieces: the words with the five lists, the words with the clause list, the host's side. The mark bits set on the way are cleared again: every lent word is as it was.
+#![tactic(auto)]
+
 ghost use Rattle.std.specs.Prelude.{◌≡◌, true, ◌&&◌, [], ℕ};
 ghost use Rattle.kinds.specs.Lent.{lent_five, host_of, no_host};
 ghost use Rattle.kinds.specs.Layout.{view};

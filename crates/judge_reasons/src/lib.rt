@@ -1,4 +1,6 @@
 // Judging long reasons: "a trail literal's long reason is live and has that literal first, and all other literals of its reason are false".
+#![tactic(auto)]
+
 ghost use Rattle.std.specs.Prelude.{◌≡◌, true, [], ℕ, ◌+◌, ◌-◌, ◌*◌, ◌≤◌, ◌<◌, ◌^◌, length, take};
 ghost use Rattle.laws.specs.Fold.{all_below};
 ghost use Rattle.calls.specs.HostPasses.{other_false, reason_clause_ok, long_reason_ok, long_reasons_ok, trail_in_range};

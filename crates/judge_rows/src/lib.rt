@@ -1,4 +1,6 @@
 // Judging the rows: "Row entries are in range. Rows are symmetric: b stands in the row of not-a as often as a in the row of not-b, a and b of different variables. The binary count is half the entries."
+#![tactic(auto)]
+
 ghost use Rattle.std.specs.Prelude.{◌≡◌, true, ℕ, ◌+◌, ◌*◌, ◌≤◌, ◌<◌, ◌^◌, length};
 ghost use Rattle.laws.specs.Fold.{all_below, count_below, sum_below};
 ghost use Rattle.laws.specs.Lists.{at, list_at};

@@ -1,5 +1,7 @@
 // Passing stores of a chosen size, built in lent buffers: what is judged where docs/performance.md counts. A buffer that is too short stays as it is.
 // n clauses of four literals over 2n variables, a quarter of them in each tier; n binary clauses; every variable on the trail, every fourth by a long clause.
+#![tactic(auto)]
+
 ghost use Rattle.std.specs.Prelude.{◌*◌, ◌+◌, ◌≤◌, ◌<◌, length};
 
 use kinds::{ClauseActivity, State};

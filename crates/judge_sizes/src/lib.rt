@@ -1,5 +1,7 @@
 // Judging the sizes, refusal 1: "V out of range, a buffer per variable or literal not V or 2V long, a trail buffer shorter than V, a store buffer above its maximum, a used length or row count above its room".
 // Every number is any number. And refusal 2 on the state's floats.
+#![tactic(auto)]
+
 ghost use Rattle.std.specs.Prelude.{◌≡◌, ◌&&◌, [], ℕ, ◌*◌, ◌/◌, ◌^◌, ◌≤◌, ◌<◌, length};
 ghost use Rattle.std.specs.Float.{binary32};
 ghost use Rattle.std.specs.Float.Ieee.{to_bits};

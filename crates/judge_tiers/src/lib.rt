@@ -1,5 +1,7 @@
 // Refusal 2 on the tier lists: "Each live clause stands at least once in its tier's list. Every tier entry is a live clause's reference, or an offset with three used words from there, whose word 1 has the deleted bit and lies inside no live clause."
 // Live clauses are marked by their mark bit while their tier is judged; the words end as they began.
+#![tactic(auto)]
+
 ghost use Rattle.std.specs.Prelude.{◌≡◌, true, ◌&&◌, List, [], ◌∷◌, ℕ, ◌+◌, ◌≤◌, ◌<◌, ◌^◌, length};
 ghost use Rattle.laws.specs.Fold.{all_below, any_below};
 ghost use Rattle.laws.specs.Lists.{at};

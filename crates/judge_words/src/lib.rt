@@ -1,4 +1,6 @@
 // Refusal 2 on the words and the clause list: "When a store passes", its sentences on placing, live clauses, counts and garbage; and the search for a live clause (refusal 6).
+#![tactic(auto)]
+
 ghost use Rattle.std.specs.Prelude.{◌≡◌, true, ◌&&◌, ℕ, ◌+◌, ◌*◌, ◌≤◌, ◌<◌, ◌^◌, length, take};
 ghost use Rattle.laws.specs.Fold.{sum_below};
 ghost use Rattle.laws.specs.Lists.{at};

@@ -1,4 +1,6 @@
 // The kinds of numbers, the state, the answers, and what is read from a variable's words.
+#![tactic(auto)]
+
 ghost use Rattle.std.specs.Prelude.{◌≡◌, ℕ, ◌+◌, ◌-◌, ◌*◌, ◌/◌, ◌%◌, ◌≤◌, ◌<◌, length, get_or};
 ghost use Rattle.kinds.specs.Clauses.{neg, var_of};
 ghost use Rattle.kinds.specs.Held.{value_of, node_of};

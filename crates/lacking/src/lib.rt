@@ -1,4 +1,6 @@
 // Refusal 10 of `unit_simplify`: clauses with no true literal and fewer than two unassigned.
+#![tactic(auto)]
+
 ghost use Rattle.std.specs.Prelude.{◌≡◌, Bool, false, List, ℕ, ◌+◌, ◌*◌, ◌≤◌, ◌<◌, length};
 ghost use Rattle.laws.specs.Fold.{any_below};
 ghost use Rattle.laws.specs.Lists.{at, list_at};

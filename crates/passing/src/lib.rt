@@ -1,1 +1,2 @@
 // Theorems on the definitions; no code.
+#![tactic(auto)]

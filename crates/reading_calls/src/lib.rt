@@ -1,4 +1,6 @@
 // A clause's literals, assessing a learned clause, and emptying the record. Each call judges what it is lent, then looks for its own refusals, then takes its step.
+#![tactic(auto)]
+
 ghost use Rattle.std.specs.Prelude.{◌≡◌, []};
 ghost use Rattle.kinds.specs.Lent.{lent_words, lent_levels, lent_record, no_host};
 ghost use Rattle.calls.specs.Call.{literals, assess, empty_record};

@@ -1,4 +1,6 @@
 // Reducing: reduce.rs. Each call judges what it is lent, then looks for its own refusal, then takes its step.
+#![tactic(auto)]
+
 ghost use Rattle.std.specs.Prelude.{◌≡◌, [], ℕ};
 ghost use Rattle.kinds.specs.Lent.{lent, lent_five, lent_words, host_of, no_host};
 ghost use Rattle.calls.specs.Call.{reduce_mids, reduce_locals};

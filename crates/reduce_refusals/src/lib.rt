@@ -1,4 +1,6 @@
 // Refusal 11 of reduce.rs, known before anything is moved.
+#![tactic(auto)]
+
 ghost use Rattle.std.specs.Prelude.{◌≡◌, [], ℕ, ◌+◌, ◌^◌, ◌≤◌, ◌<◌, length};
 ghost use Rattle.laws.specs.Fold.{one, count_below, sum_below};
 ghost use Rattle.kinds.specs.Lent.{lent, lent_five, host_of, no_host};

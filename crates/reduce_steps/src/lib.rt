@@ -1,4 +1,6 @@
 // The steps of reduce.rs, on what is lent. Each stands on what the judging and the refusals have established.
+#![tactic(auto)]
+
 ghost use Rattle.std.specs.Prelude.{◌≡◌, true, ◌||◌, [], ℕ, ◌+◌, ◌≤◌, ◌<◌, eqb, length};
 ghost use Rattle.std.proofs.lemmas.List.Edits.{sets};
 ghost use Rattle.kinds.specs.Header.{with_deleted};

@@ -1,1 +1,2 @@
 // Laws on the ways through a public call. No code.
+#![tactic(auto)]

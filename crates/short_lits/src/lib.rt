@@ -1,4 +1,6 @@
 // Literals given by a caller, where they are few: each compared with those before it, so that no array of stamps is cleared.
+#![tactic(auto)]
+
 ghost use Rattle.std.specs.Prelude.{◌≡◌, ◌≤◌, ◌<◌, length};
 ghost use Rattle.laws.specs.Fold.{all_below};
 ghost use Rattle.calls.specs.StorePasses.{apart, lits_ok};

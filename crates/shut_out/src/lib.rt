@@ -1,1 +1,2 @@
 // What contracts say, and what they shut out; no code.
+#![tactic(auto)]

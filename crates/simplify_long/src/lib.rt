@@ -1,4 +1,6 @@
 // The long-clause half of `unit_simplify`.
+#![tactic(auto)]
+
 ghost use Rattle.std.specs.Prelude.{◌≡◌, ℕ};
 ghost use Rattle.kinds.specs.Layout.{view, lay};
 ghost use Rattle.simplify_lines.specs.Walk.{walk_parts, lent_walk, longs_done};

@@ -1,4 +1,6 @@
 // Refusal 11 of `unit_simplify`: whether the finished call fits, found out before anything is written.
+#![tactic(auto)]
+
 ghost use Rattle.std.specs.Prelude.{◌≡◌, Bool, true, false, List, ℕ, ◌+◌, ◌*◌, ◌≤◌, ◌<◌, ◌^◌, length};
 ghost use Rattle.laws.specs.Fold.{all_below, sum_below, fold_below};
 ghost use Rattle.laws.specs.Lists.{at, more};

@@ -1,4 +1,6 @@
 // `unit_simplify` below the judging.
+#![tactic(auto)]
+
 ghost use Rattle.std.specs.Prelude.{◌≡◌, ℕ};
 ghost use Rattle.kinds.specs.Lent.{lent, host_of};
 ghost use Rattle.kinds.specs.Layout.{view, lay};

@@ -1,4 +1,6 @@
 // Starting.
+#![tactic(auto)]
+
 ghost use Rattle.std.specs.Prelude.{◌≡◌};
 ghost use Rattle.kinds.specs.Lent.{lent, no_host};
 ghost use Rattle.calls.specs.Adding.{zeros};

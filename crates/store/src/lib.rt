@@ -1,4 +1,6 @@
 // The static library: every public call under a plain name, for a caller in C or Rust. The state goes by value, a slice as a pointer and a length, an answer as numbers.
+#![tactic(auto)]
+
 ghost use Rattle.std.specs.Prelude.{◌≡◌, [], ℕ, ◌+◌, ◌*◌};
 ghost use Rattle.kinds.specs.Lent.{Lent, lent, lent_five, lent_words, lent_rows, lent_record, lent_levels, lent_activity, host_of, levels_only, no_host, room_of};
 ghost use Rattle.calls.specs.Call.{add_clause, set_tier, delete, add_binary, implied, literals, assess, bump, decay, set_decay, reduce_locals, reduce_mids, collect, prove_units, unit_simplify, empty_record, view_fields, view_literal};

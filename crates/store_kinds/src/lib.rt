@@ -1,4 +1,6 @@
 // What passes to a caller in another language: structs of numbers beside the state, and what each enum answer becomes there.
+#![tactic(auto)]
+
 ghost use Rattle.std.specs.Prelude.{◌≡◌};
 ghost use Rattle.laws.specs.Fold.{one};
 ghost use Rattle.laws.specs.Lists.{at};

@@ -1,4 +1,6 @@
 // Returned parts as numbers: where a part starts in the lent buffer, and its length, since a reference does not pass back to another language.
+#![tactic(auto)]
+
 ghost use Rattle.std.specs.Prelude.{◌≡◌, [], ℕ, ◌+◌, ◌*◌};
 ghost use Rattle.kinds.specs.Lent.{lent_rows, lent_words, no_host, room_of};
 ghost use Rattle.calls.specs.Call.{implied, literals};

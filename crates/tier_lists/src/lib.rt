@@ -1,4 +1,6 @@
 // The four tier lists: one more entry of a tier's list.
+#![tactic(auto)]
+
 ghost use Rattle.std.specs.Prelude.{◌≡◌, [], ◌∷◌, ℕ, ◌≤◌, ◌<◌, length};
 ghost use Rattle.laws.specs.Lists.{at, list_at, push, lengths, take_each, fill_each};
 ghost use Rattle.tier_lists.specs.Four.{four};

@@ -1,4 +1,6 @@
 // Units: unit_simplify.rs. Each call judges what it is lent, then looks for its own refusal, then takes its step.
+#![tactic(auto)]
+
 ghost use Rattle.std.specs.Prelude.{◌≡◌, ℕ};
 ghost use Rattle.kinds.specs.Lent.{lent, lent_words, host_of};
 ghost use Rattle.calls.specs.Call.{prove_units, unit_simplify};

@@ -1,4 +1,6 @@
 // The clause view: clause.rs.
+#![tactic(auto)]
+
 ghost use Rattle.std.specs.Prelude.{◌≡◌};
 ghost use Rattle.kinds.specs.Lent.{Lent};
 ghost use Rattle.calls.specs.Call.{view_fields, view_literal};

@@ -1,4 +1,6 @@
 // A line is carried out on the walk's buffers, and what it prints is laid on a page.
+#![tactic(auto)]
+
 use walk_kinds::Walk;
 use walk_lines::Line;
 use walk_said::Printed;

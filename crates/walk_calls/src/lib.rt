@@ -1,4 +1,6 @@
 // The lines that add, choose and read: each lends the parts that `op=room` and V leave of the walk's buffers.
+#![tactic(auto)]
+
 use kinds::ClauseRef;
 use walk_kinds::{Told, Walk};
 

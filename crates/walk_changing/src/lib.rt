@@ -1,4 +1,6 @@
 // The lines that change the store, and assessing.
+#![tactic(auto)]
+
 use walk_kinds::Walk;
 use walk_lines::Line;
 use walk_said::Printed;

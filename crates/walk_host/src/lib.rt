@@ -1,4 +1,6 @@
 // The lines that are the host's own doing: rooms, levels, the trail, and `op=poke`.
+#![tactic(auto)]
+
 use kinds::{ClauseActivity, Lit, State, Var};
 use walk_kinds::{Rooms, Said, Told, Walk};
 

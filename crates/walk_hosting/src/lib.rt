@@ -1,4 +1,6 @@
 // The lines that are the host's own doing, `op=start` and `op=poke`.
+#![tactic(auto)]
+
 use walk_kinds::{Told, Walk};
 use walk_lines::Line;
 use walk_said::Printed;

@@ -1,4 +1,6 @@
 // What the walk keeps between lines besides the buffers, and what a line's carrying out gives.
+#![tactic(auto)]
+
 ghost use Rattle.std.specs.Prelude.{◌≡◌, ◌≤◌, min};
 
 use kinds::{State, Tier};

@@ -1,4 +1,6 @@
 // What a line of a walk means: which call with which arguments, or unreadable. docs/walk.md has the table.
+#![tactic(auto)]
+
 ghost use Rattle.std.specs.Prelude.{◌≡◌, true, ℕ, suc, ◌+◌, ◌-◌, ◌*◌, ◌^◌, ◌≤◌, ◌<◌, length, take, drop};
 ghost use Rattle.walk_lines.specs.Lines.{digit, whole as Lines·whole, number, listed, matching, meaning, nth as Lines·nth, room_meant, pattern_at, meant_at};
 ghost use Rattle.walk_lines.specs.Told.{number_of, digits_at, taken_of, prefixed, room_of, meaning_of};

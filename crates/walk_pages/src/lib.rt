@@ -1,4 +1,6 @@
 // The lines that print more than an answer, and `op=start`. Each gives how much of the page it filled.
+#![tactic(auto)]
+
 use kinds::{ClauseRef, Lit, Plain};
 use walk_kinds::{Told, Walk};
 

@@ -1,4 +1,6 @@
 // What a call's reply makes of the walk: its number, what it says, and the state from then on.
+#![tactic(auto)]
+
 ghost use Rattle.std.specs.Prelude.{◌≡◌};
 ghost use Rattle.kinds.specs.Numbers.{refusal_number};
 ghost use Rattle.calls.specs.Answers.{plain_number, added_number, added_answer, changed_number, changed_answer, proved_number, proved_answer, assessed_number, assessed_answer};

@@ -1,4 +1,6 @@
 // The walk program: reads at most 64 KiB from standard input and carries out one line after the other.
+#![tactic(auto)]
+
 ghost use Rattle.std.specs.Prelude.{◌≡◌, ◌+◌, ◌≤◌, length};
 
 use kinds::{ClauseActivity, State};

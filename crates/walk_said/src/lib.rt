@@ -1,4 +1,6 @@
 // What a line prints of what it gives.
+#![tactic(auto)]
+
 use walk_kinds::{Said, Told, Walk};
 
 // The walk after a line, and how much of the page it filled.

@@ -1,4 +1,6 @@
 // What the lines of a walk print. docs/walk.md has every spelling.
+#![tactic(auto)]
+
 ghost use Rattle.std.specs.Prelude.{◌<◌, ◌≤◌, length};
 
 use kinds::{ClauseActivity, Place, State, Tier};

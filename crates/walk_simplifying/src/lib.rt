@@ -1,4 +1,6 @@
 // `op=units` and `op=simplify`: each lends the parts that `op=room` and V leave of the walk's buffers.
+#![tactic(auto)]
+
 use walk_kinds::{Told, Walk};
 
 // `op=units`

@@ -1,4 +1,6 @@
 // Text, numbers and lists written to a lent page, never beyond its end.
+#![tactic(auto)]
+
 ghost use Rattle.std.specs.Prelude.{◌≡◌, ◌∷◌, ◌+◌, ◌%◌, ◌<◌, min, length, drop};
 ghost use Rattle.walk_text.specs.Page.{page, written};
 ghost use Rattle.walk_text.specs.Numbers.{decimal, commas};
