@@ -18,7 +18,7 @@ ghost use Rattle.activity.specs.Stored.{holding, stored, Placed, Bounded, twice_
 use kinds::{ClauseActivity, DecayReply, Plain, Refusal};
 
 // What bump, decay and rescale leave beside the buffers: the clause list's used length, bump and inverse decay.
-#[derive(Drop)]
+#[derive(Clone, Copy)]
 pub struct Activities {
     pub listed: usize,
     pub activity: ClauseActivity,

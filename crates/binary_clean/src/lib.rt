@@ -27,7 +27,7 @@ pub fn stays_in(values: &[u8], code: u32, b: u32) -> bool
 }
 
 // The entries that stay, and the record's new used length.
-#[derive(Drop)]
+#[derive(Clone, Copy)]
 pub struct Cleaned {
     pub entries: usize,
     pub recorded: usize,
@@ -111,7 +111,7 @@ pub fn clean_rows(
 }
 
 // What cleaning would leave of a row, and the words of its lines; nothing is written.
-#[derive(Drop)]
+#[derive(Clone, Copy)]
 pub struct Counted {
     pub entries: usize,
     pub words: usize,

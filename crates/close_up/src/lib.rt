@@ -11,7 +11,7 @@ ghost use Rattle.close_up.specs.Reasons.{redirected, redirected_all};
 use kinds::{Lit, LitValue, Reason};
 
 // The used lengths of the words and of the clause list.
-#[derive(Drop)]
+#[derive(Clone, Copy)]
 pub struct Closed {
     pub used: usize,
     pub listed: usize,

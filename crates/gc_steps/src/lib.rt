@@ -13,7 +13,7 @@ ghost use Rattle.tier_lists.specs.Four.{four};
 use kinds::State;
 
 // The state, and whether a collection was due: "rebuild them".
-#[derive(Drop)]
+#[derive(Clone, Copy)]
 pub struct Collected {
     pub state: State,
     pub due: bool,

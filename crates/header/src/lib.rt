@@ -127,7 +127,7 @@ pub fn new_head(tier: u32, glue: usize) -> u32
 // ---- the header
 
 // "`ClauseHeader` by transmute: three words by value"
-#[derive(Drop)]
+#[derive(Clone, Copy)]
 pub struct ClauseHeader {
     pub data: [u32; 3],
 }

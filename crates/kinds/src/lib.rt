@@ -7,18 +7,18 @@ ghost use Rattle.kinds.specs.Held.{value_of, node_of};
 ghost use Rattle.kinds.specs.Numbers.{tier_number, reason_of, refusal_number};
 
 // A literal's code: twice the variable index, plus 1 if negated.
-#[derive(Drop)]
+#[derive(Clone, Copy)]
 pub struct Lit(pub u32);
 
 // A variable's index.
-#[derive(Drop)]
+#[derive(Clone, Copy)]
 pub struct Var(pub u32);
 
 // The offset of a long clause's word 0.
-#[derive(Drop)]
+#[derive(Clone, Copy)]
 pub struct ClauseRef(pub u32);
 
-#[derive(Drop)]
+#[derive(Clone, Copy)]
 pub enum Tier {
     Irred,
     Core,
@@ -26,14 +26,14 @@ pub enum Tier {
     Local,
 }
 
-#[derive(Drop)]
+#[derive(Clone, Copy)]
 pub enum LitValue {
     True,
     False,
     Unassigned,
 }
 
-#[derive(Drop)]
+#[derive(Clone, Copy)]
 pub enum Reason {
     None,
     Unit,
@@ -43,14 +43,14 @@ pub enum Reason {
 }
 
 // What is known of a variable besides its value.
-#[derive(Drop)]
+#[derive(Clone, Copy)]
 pub struct Node {
     pub reason: Reason,
     pub level: u32,
 }
 
 #[repr(C)]
-#[derive(Drop)]
+#[derive(Clone, Copy)]
 pub struct ClauseActivity {
     pub bump: f32,
     pub inv_decay: f32,
@@ -58,7 +58,7 @@ pub struct ClauseActivity {
 
 // The state by value: V, the used lengths, the counts, garbage, the binary count, bump and inverse decay.
 #[repr(C)]
-#[derive(Drop)]
+#[derive(Clone, Copy)]
 pub struct State {
     pub vars: usize,
     pub words: usize,
@@ -72,7 +72,7 @@ pub struct State {
 }
 
 // Why a call is refused.
-#[derive(Drop)]
+#[derive(Clone, Copy)]
 pub enum Refusal {
     Size,
     Store,
@@ -89,21 +89,21 @@ pub enum Refusal {
 }
 
 // The answer of a call that says no more than that it was done.
-#[derive(Drop)]
+#[derive(Clone, Copy)]
 pub enum Plain {
     Done,
     Refused(Refusal),
 }
 
 // The answer of adding a long clause.
-#[derive(Drop)]
+#[derive(Clone, Copy)]
 pub enum Added {
     At(ClauseRef),
     Refused(Refusal),
 }
 
 // The answer of a call after which watch lists may have to be built anew.
-#[derive(Drop)]
+#[derive(Clone, Copy)]
 pub enum Changed {
     Rebuild,
     Keep,
@@ -111,7 +111,7 @@ pub enum Changed {
 }
 
 // The answer of `prove_units`.
-#[derive(Drop)]
+#[derive(Clone, Copy)]
 pub enum Proved {
     NewUnit,
     NoNewUnit,
@@ -119,21 +119,21 @@ pub enum Proved {
 }
 
 // The answer of assessing: the tier and the glue of the new header.
-#[derive(Drop)]
+#[derive(Clone, Copy)]
 pub enum Assessed {
     As(Tier, u32),
     Refused(Refusal),
 }
 
 // The answer of a clause view at a place.
-#[derive(Drop)]
+#[derive(Clone, Copy)]
 pub enum Place {
     Holds(Lit),
     Nothing,
 }
 
 // What the literals of a long clause come to under an assignment: the number of those that are left.
-#[derive(Drop)]
+#[derive(Clone, Copy)]
 pub enum Verdict {
     Satisfied,
     Same,
@@ -141,26 +141,26 @@ pub enum Verdict {
 }
 
 // A changing call gives its answer and the state.
-#[derive(Drop)]
+#[derive(Clone, Copy)]
 pub struct PlainReply {
     pub answer: Plain,
     pub state: State,
 }
 
-#[derive(Drop)]
+#[derive(Clone, Copy)]
 pub struct AddedReply {
     pub answer: Added,
     pub state: State,
 }
 
-#[derive(Drop)]
+#[derive(Clone, Copy)]
 pub struct ChangedReply {
     pub answer: Changed,
     pub state: State,
 }
 
 // `prove_units` gives the trail's used length besides.
-#[derive(Drop)]
+#[derive(Clone, Copy)]
 pub struct ProvedReply {
     pub answer: Proved,
     pub state: State,
@@ -168,7 +168,7 @@ pub struct ProvedReply {
 }
 
 // Setting the decay takes and gives bump and inverse decay alone.
-#[derive(Drop)]
+#[derive(Clone, Copy)]
 pub struct DecayReply {
     pub answer: Plain,
     pub activity: ClauseActivity,

@@ -175,7 +175,7 @@ pub fn refuse_prove_units(
 }
 
 // The state, and the trail's used length.
-#[derive(Drop)]
+#[derive(Clone, Copy)]
 pub struct Units {
     pub state: State,
     pub assigned: usize,

@@ -94,7 +94,7 @@ fn goes_below(
 }
 
 // How many go below a bound, and the words of their lines.
-#[derive(Drop)]
+#[derive(Clone, Copy)]
 struct Gone {
     count: usize,
     lines: usize,

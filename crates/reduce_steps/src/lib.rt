@@ -73,7 +73,7 @@ pub fn mids(
 }
 
 // What reducing locals gives: the state, and whether a clause was struck.
-#[derive(Drop)]
+#[derive(Clone, Copy)]
 pub struct LocalsReduced {
     pub state: State,
     pub struck: bool,

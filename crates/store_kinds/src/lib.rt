@@ -17,7 +17,7 @@ use view::HeaderFields;
 
 // The number of the table, 0 where the call was done; the answer as a number, 0 where it says nothing; the state.
 #[repr(C)]
-#[derive(Drop)]
+#[derive(Clone, Copy)]
 pub struct Reply {
     pub number: u32,
     pub answer: u32,
@@ -26,7 +26,7 @@ pub struct Reply {
 
 // `prove_units` gives the trail's used length besides.
 #[repr(C)]
-#[derive(Drop)]
+#[derive(Clone, Copy)]
 pub struct UnitsReply {
     pub number: u32,
     pub answer: u32,
@@ -36,7 +36,7 @@ pub struct UnitsReply {
 
 // The tier's number and the glue of the new header, both 0 where assessing is refused.
 #[repr(C)]
-#[derive(Drop)]
+#[derive(Clone, Copy)]
 pub struct AssessedNumbers {
     pub number: u32,
     pub tier: u32,
@@ -45,7 +45,7 @@ pub struct AssessedNumbers {
 
 // Setting the decay gives bump and inverse decay alone.
 #[repr(C)]
-#[derive(Drop)]
+#[derive(Clone, Copy)]
 pub struct DecayNumbers {
     pub number: u32,
     pub activity: ClauseActivity,
@@ -53,7 +53,7 @@ pub struct DecayNumbers {
 
 // A returned part of a lent buffer: where it starts there, and its length.
 #[repr(C)]
-#[derive(Drop)]
+#[derive(Clone, Copy)]
 pub struct Part {
     pub number: u32,
     pub start: usize,
@@ -62,7 +62,7 @@ pub struct Part {
 
 // The fields that a clause view shows.
 #[repr(C)]
-#[derive(Drop)]
+#[derive(Clone, Copy)]
 pub struct FieldNumbers {
     pub activity: u32,
     pub tier: u32,
@@ -75,7 +75,7 @@ pub struct FieldNumbers {
 
 // The literal that a clause view shows at a place.
 #[repr(C)]
-#[derive(Drop)]
+#[derive(Clone, Copy)]
 pub struct PlaceNumbers {
     pub number: u32,
     pub literal: u32,

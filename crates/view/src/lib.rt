@@ -11,7 +11,7 @@ ghost use Rattle.view.specs.Shown.{shown, fields_from};
 use kinds::{Lit, Place, Tier};
 
 // The header fields of a clause. The activity goes as its bits, since a slice may hold any.
-#[derive(Drop)]
+#[derive(Clone, Copy)]
 pub struct HeaderFields {
     pub activity: u32,
     pub tier: Tier,
@@ -76,7 +76,7 @@ pub fn literal_at(words: &[u32], place: usize) -> Place
 // ---- the view: "a struct holding the slice, thin, after the core"
 
 // "A clause view holds the slice from a clause's word 0 to its end"
-#[derive(Drop)]
+#[derive(Clone, Copy)]
 pub struct Clause<'a> {
     pub words: &'a [u32],
 }

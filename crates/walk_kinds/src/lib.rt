@@ -6,7 +6,7 @@ ghost use Rattle.std.specs.Prelude.{◌≡◌, ◌≤◌, min};
 use kinds::{State, Tier};
 
 // The lengths lent, as `op=room` names them.
-#[derive(Drop)]
+#[derive(Clone, Copy)]
 pub struct Rooms {
     pub words: usize,
     pub clauses: usize,
@@ -18,7 +18,7 @@ pub struct Rooms {
     pub rec: usize,
 }
 
-#[derive(Drop)]
+#[derive(Clone, Copy)]
 pub struct Walk {
     pub state: State,
     pub rooms: Rooms,
@@ -31,7 +31,7 @@ pub struct Walk {
 }
 
 // What an accepted line says besides 0.
-#[derive(Drop)]
+#[derive(Clone, Copy)]
 pub enum Said {
     Nothing,
     Ref(u32),
@@ -41,7 +41,7 @@ pub enum Said {
 }
 
 // What a line gives: the table's number, 0 where accepted, and what it says.
-#[derive(Drop)]
+#[derive(Clone, Copy)]
 pub struct Told {
     pub walk: Walk,
     pub number: usize,

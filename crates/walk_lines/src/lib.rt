@@ -9,21 +9,21 @@ use kinds::{ClauseRef, Lit, Var};
 use walk_kinds::Rooms;
 
 // The number at a place of a line, and the place behind it.
-#[derive(Drop)]
+#[derive(Clone, Copy)]
 pub enum Digits {
     Nothing,
     Number(u32, usize),
 }
 
 // How many numbers of a line stand in the lent buffer, where the line is of the pattern.
-#[derive(Drop)]
+#[derive(Clone, Copy)]
 pub enum Matched {
     Other,
     Numbers(usize),
 }
 
 // A line that was read. A list stands in the lent buffer: of a long clause behind tier and glue, up to the number of all numbers of the line.
-#[derive(Drop)]
+#[derive(Clone, Copy)]
 pub enum Line {
     Unreadable,
     Start(u32),

@@ -4,7 +4,7 @@
 use walk_kinds::{Said, Told, Walk};
 
 // The walk after a line, and how much of the page it filled.
-#[derive(Drop)]
+#[derive(Clone, Copy)]
 pub struct Printed {
     pub walk: Walk,
     pub filled: usize,
