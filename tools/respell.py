@@ -89,9 +89,13 @@ def imported(text):
     return found
 
 
-def turned(text, table, keep):
+def turned(text, table, keep, labels=False):
+    """Returns the text with the table's names. Behind a dot in the proof of one function stands a label that Rattle makes, or a field, and never a lemma."""
+
     def one(m):
         path, name = m["path"], m["name"]
+        if labels and path and table.get(name, "").endswith("_lem"):
+            return path + snake(name)
         if name in keep and not path:
             return m[0]
         if LIBRARY.match(path):
@@ -112,21 +116,24 @@ def main():
     for path in files(".antt"):
         text = read(path)
         keep = imported(text)
+        labels = bool(OF_FUNCTION.search(path))
         lines = []
         for line in text.splitlines(keepends=True):
             m = re.search(r"(^|\s)--(?=\s|$)", line)
             at = m.start() if m else len(line)
-            lines.append(turned(line[:at], table, keep) + in_words(line[at:], table))
+            lines.append(turned(line[:at], table, keep, labels) + in_words(line[at:], table))
         write(path, text, "".join(lines))
+    # a name of the source has no capital and no dash
+    ghost = {old: new for old, new in table.items() if snake(old) != old}
     for path in files(".rt"):
         text = read(path)
         keep = imported(text)
         parts = re.split(r'("(?:[^"\\\n]|\\.)*"|//[^\n]*)', text)
-        out = [p if i % 2 and p.startswith('"') else in_words(p, table) if i % 2 else turned(p, table, keep) for i, p in enumerate(parts)]
+        out = [p if i % 2 and p.startswith('"') else in_words(p, ghost) if i % 2 else turned(p, ghost, keep) for i, p in enumerate(parts)]
         write(path, text, "".join(out))
     for path in files(".edit"):
         text = read(path)
-        write(path, text, re.sub(r"(?m)^((?:old|new): )(.*)$", lambda m: m[1] + turned(m[2], table, set()), text))
+        write(path, text, re.sub(r"(?m)^((?:old|new): )(.*)$", lambda m: m[1] + turned(m[2], ghost, set()), text))
     pages = [os.path.join(ROOT, "README.md")]
     for folder, dirs, found in os.walk(os.path.join(ROOT, "docs")):
         dirs[:] = [d for d in dirs if d != "src"]

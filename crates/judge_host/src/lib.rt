@@ -123,7 +123,7 @@ fn is_true(values: &[u8], lit: Lit) -> bool
 }
 
 // Any number: one that is no literal is not false.
-pub fn is_false_lem(values: &[u8], lit: Lit) -> bool
+pub fn is_false(values: &[u8], lit: Lit) -> bool
     ensures { result ≡ is_false values.now lit.0 }
 {
     let code = lit.0;
@@ -221,7 +221,7 @@ fn binary_reason_ok(
     let Reason::Binary(other) = reason else {
         return true;
     };
-    is_false_lem(values, other)
+    is_false(values, other)
 }
 
 fn binary_reasons_ok(

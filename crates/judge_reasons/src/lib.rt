@@ -8,7 +8,7 @@ ghost use Rattle.judge_host.specs.Sides.{side_of, SideSized, Coded};
 ghost use Rattle.judge_reasons.specs.Reasons.{besides, under, Listed};
 
 use buffers::word;
-use judge_host::{is_false_lem, lit_at};
+use judge_host::{is_false, lit_at};
 use judge_words::is_live;
 use kinds::{ClauseRef, Lit, Reason, node_at};
 

@@ -283,7 +283,7 @@ fn entries(vars: usize, rows: &[u32], counts: &[u32]) -> usize
 }
 
 // Refusal 1 was judged before: the sizes are those of `RowsSized`. The binary count is any number.
-pub fn rows_pass_lem(vars: usize, binary: usize, rows: &[u32], counts: &[u32]) -> bool
+pub fn rows_pass(vars: usize, binary: usize, rows: &[u32], counts: &[u32]) -> bool
     requires { RowsSized vars rows.now counts.now }
     ensures { result ≡ rows_pass (with_binary binary (rows_in vars rows.now counts.now)) }
 {

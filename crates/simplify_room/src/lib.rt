@@ -140,7 +140,7 @@ pub fn all_within(list: &[u32], n: usize, m: usize) -> bool
 }
 
 // Whether record and rows have room for the finished call: the lines of both halves, and for each row what stays plus what shortened clauses add.
-pub fn has_room_lem(
+pub fn has_room(
     s: State,
     words: &[u32],
     clauses: &[u32],

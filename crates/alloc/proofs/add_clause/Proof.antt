@@ -62,7 +62,7 @@ same_length c = c.before.before.copy.auto.0 ∙ simp length-set
 returns : tie.Need-returns
 returns c =
     let a = c.before.before.before.before.before.before.before.args in
-    let n = c.before.before.before.before.new_head_lem in
+    let n = c.before.before.before.before.new_head in
     appended a.words.now _ a.used a.tier a.glue a.lits.now n.result n.ensures c.before.before.copy.ensures
 
 pub add-clause-spec : {M : Type 1} → statement M

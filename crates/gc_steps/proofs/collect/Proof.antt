@@ -30,7 +30,7 @@ follow-requires c κs =
     let s = c.before.before.before.before.before.before.before.before.before.before.before.before.before.before.before.before.before.before.before in
     let a = s.args in
     let r = collect_ready a.s a.words.now a.clauses.now a.irred.now a.core.now a.mid.now a.local.now (host_of a.values.now a.kinds.now a.reasons.now a.levels.now a.trail.now a.assigned a.level) (four_lengths s) s.requires.0 in
-    ((r.used, r.most, r.listed), ((r.placed, r.clauses_ok_lem), (r.values, r.kinds, r.reasons, r.levels)))
+    ((r.used, r.most, r.listed), ((r.placed, r.clauses_ok), (r.values, r.kinds, r.reasons, r.levels)))
 
 close-up-requires : tie.Need-close-up-requires
 close-up-requires c κs =
