@@ -115,7 +115,7 @@ module _ (w u : List ℕ) (o : ℕ) (s : Same o (end_at w o) w u) where
 
 pub chain_le : (lo hi : ℕ) (w l : List ℕ) → Chain lo hi w l → lo ≤ hi
 chain_le lo hi w [] h = h
-chain_le lo hi w (o ∷ l) (h, k) = let q = chain_le _ hi w l k in omega arith
+chain_le lo hi w (o ∷ l) (h, k) = let q = chain_le (end_at w o) hi w l k in omega arith
 
 pub chain_in : (lo hi : ℕ) (w l : List ℕ) → Chain lo hi w l → (x : ℕ) → In x l → (lo ≤ x) × (end_at w x ≤ hi)
 chain_in lo hi w [] h x m = absurd (elem_none x m)
