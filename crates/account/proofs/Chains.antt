@@ -12,7 +12,7 @@ use Rattle.account.specs.Weights.{total, weigh, Chain}
 
 pub chain_le : (lo hi : ℕ) (ws os : List ℕ) → Chain lo hi ws os → lo ≤ hi
 chain_le lo hi ws [] h = h
-chain_le lo hi ws (o ∷ os) (h, k) = let l = chain_le _ hi ws os k in omega arith
+chain_le lo hi ws (o ∷ os) (h, k) = let l = chain_le (end_at ws o) hi ws os k in omega arith
 
 module _ (ws vs : List ℕ) (o hi : ℕ) (e : SameFrom o hi ws vs) (fit : end_at ws o ≤ hi) where
   len_same : len_at vs o ≡ len_at ws o
@@ -28,16 +28,16 @@ module _ (ws vs : List ℕ) (o hi : ℕ) (e : SameFrom o hi ws vs) (fit : end_at
 pub chain_same : (lo hi : ℕ) (ws vs os : List ℕ) → Chain lo hi ws os → SameFrom lo hi ws vs → Chain lo hi vs os
 chain_same lo hi ws vs [] h e = h
 chain_same lo hi ws vs (o ∷ os) (h, k) e =
-    let l = chain_le _ hi ws os k in
-    (h, rw (len_same ws vs o hi (same_part lo hi o hi ws vs h (omega arith) e) l) (chain_same _ hi ws vs os k (same_part lo hi _ hi ws vs (omega arith) (omega arith) e)))
+    let l = chain_le (end_at ws o) hi ws os k in
+    (h, rw (len_same ws vs o hi (same_part lo hi o hi ws vs h (omega arith) e) l) (chain_same (end_at ws o) hi ws vs os k (same_part lo hi _ hi ws vs (omega arith) (omega arith) e)))
 
 pub longs_same : (lo hi : ℕ) (ws vs os : List ℕ) → Chain lo hi ws os → SameFrom lo hi ws vs → longs vs os ≡ longs ws os
 unfolding longs
 longs_same lo hi ws vs [] h e = refl
 longs_same lo hi ws vs (o ∷ os) (h, k) e =
-    let l = chain_le _ hi ws os k in
+    let l = chain_le (end_at ws o) hi ws os k in
     let s = same_part lo hi o hi ws vs h (omega arith) e in
-    rw (head_same ws vs o hi s l, lits_same ws vs o hi s l, longs_same _ hi ws vs os k (same_part lo hi _ hi ws vs (omega arith) (omega arith) e))
+    rw (head_same ws vs o hi s l, lits_same ws vs o hi s l, longs_same (end_at ws o) hi ws vs os k (same_part lo hi _ hi ws vs (omega arith) (omega arith) e))
 
 -- ---- totals
 
@@ -81,15 +81,15 @@ longs_at w ws pre o post = rw (longs_append, total_append, longs_cons)
 
 pub chain_pre : (lo hi : ℕ) (ws pre : List ℕ) (o : ℕ) (post : List ℕ) → Chain lo hi ws (pre ++ o ∷ post) → Chain lo o ws pre
 chain_pre lo hi ws [] o post (h, k) = h
-chain_pre lo hi ws (p ∷ pre) o post (h, k) = (h, chain_pre _ hi ws pre o post k)
+chain_pre lo hi ws (p ∷ pre) o post (h, k) = (h, chain_pre (end_at ws p) hi ws pre o post k)
 
 pub chain_post : (lo hi : ℕ) (ws pre : List ℕ) (o : ℕ) (post : List ℕ) → Chain lo hi ws (pre ++ o ∷ post) → Chain (end_at ws o) hi ws post
 chain_post lo hi ws [] o post (h, k) = k
-chain_post lo hi ws (p ∷ pre) o post (h, k) = chain_post _ hi ws pre o post k
+chain_post lo hi ws (p ∷ pre) o post (h, k) = chain_post (end_at ws p) hi ws pre o post k
 
 chain_join : (lo hi : ℕ) (ws pre : List ℕ) (o : ℕ) (post : List ℕ) → Chain lo o ws pre → Chain (end_at ws o) hi ws post → Chain lo hi ws (pre ++ o ∷ post)
 chain_join lo hi ws [] o post h k = (h, k)
-chain_join lo hi ws (p ∷ pre) o post (h, c) k = (h, chain_join _ hi ws pre o post c k)
+chain_join lo hi ws (p ∷ pre) o post (h, c) k = (h, chain_join (end_at ws p) hi ws pre o post c k)
 
 pub chain_lower : (lo lo' hi : ℕ) (ws os : List ℕ) → lo' ≤ lo → Chain lo hi ws os → Chain lo' hi ws os
 chain_lower lo lo' hi ws [] h c = omega arith
@@ -97,11 +97,11 @@ chain_lower lo lo' hi ws (o ∷ os) h (c, k) = (omega arith, k)
 
 pub chain_higher : (lo hi hi' : ℕ) (ws os : List ℕ) → hi ≤ hi' → Chain lo hi ws os → Chain lo hi' ws os
 chain_higher lo hi hi' ws [] h c = omega arith
-chain_higher lo hi hi' ws (o ∷ os) h (c, k) = (c, chain_higher _ hi hi' ws os h k)
+chain_higher lo hi hi' ws (o ∷ os) h (c, k) = (c, chain_higher (end_at ws o) hi hi' ws os h k)
 
 pub chain_append : (lo mid hi : ℕ) (ws os ps : List ℕ) → Chain lo mid ws os → Chain mid hi ws ps → Chain lo hi ws (os ++ ps)
 chain_append lo mid hi ws [] ps h k = chain_lower mid lo hi ws ps h k
-chain_append lo mid hi ws (o ∷ os) ps (h, c) k = (h, chain_append _ mid hi ws os ps c k)
+chain_append lo mid hi ws (o ∷ os) ps (h, c) k = (h, chain_append (end_at ws o) mid hi ws os ps c k)
 
 -- ---- a change inside one listed clause
 

@@ -9,7 +9,7 @@ use lib.ListN.{length, drop, replicate, length-append, get_or-append}
 use lib.Seq.{get_or-append-add}
 use Rattle.laws.specs.Lists.{at, joined, starts, fill}
 use Rattle.laws.proofs.Writing.{length_read_n, get_d_read_n, Moved, read_n_moved}
-use Rattle.kinds.specs.Clauses.{Clause, clause_at, head_at, len_at, lits_at, size_at, words_at, deleted_at, undeleted, longs}
+use Rattle.kinds.specs.Clauses.{Clause, clause_at, head_at, len_at, lits_at, size_at, words_at, end_at, deleted_at, undeleted, longs}
 use Rattle.kinds.specs.Held.{Held}
 use Rattle.kinds.proofs.Layouts.{length_fill}
 use Rattle.demands.specs.Runs.{all_held}
@@ -89,7 +89,7 @@ packed ws (o ∷ os) pre more =
 joined_fits : (lo hi : ℕ) (ws os : List ℕ) → Chain lo hi ws os → lo + length (joined (blocks ws os)) ≤ hi
 unfolding blocks joined
 joined_fits lo hi ws [] c = omega arith
-joined_fits lo hi ws (o ∷ os) (h, k) = let r = joined_fits _ hi ws os k in rw (length-append, length_read_n) (omega arith)
+joined_fits lo hi ws (o ∷ os) (h, k) = let r = joined_fits (end_at ws o) hi ws os k in rw (length-append, length_read_n) (omega arith)
 
 module _ (s : Held) (c : Chained s) where
   abbrev live : List ℕ

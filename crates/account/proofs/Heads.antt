@@ -40,7 +40,7 @@ chain_apart lo hi ws (x ∷ os) (h, k) o p e f =
     (elem_cases p x os f))
     (λ q. ⊎_elim
     (λ r. inr (inr (subst (λ (y : ℕ). end_at ws y ≤ o) (sym r) (chain_above _ hi ws os k o q).0)))
-    (λ r. chain_apart _ hi ws os k o p q r)
+    (λ r. chain_apart (end_at ws x) hi ws os k o p q r)
     (elem_cases p x os f))
     (elem_cases o x os e)
 
@@ -86,7 +86,7 @@ alike_longs (o ∷ os) ws vs a =
 
 pub alike_chain : (lo hi : ℕ) (os ws vs : List ℕ) → Alike os ws vs → Chain lo hi ws os → Chain lo hi vs os
 alike_chain lo hi [] ws vs a c = c
-alike_chain lo hi (o ∷ os) ws vs a (h, k) = (h, rw (alike_len (o ∷ os) ws vs a o (elem_here o os)) (alike_chain _ hi os ws vs (alike_later o os ws vs a) k))
+alike_chain lo hi (o ∷ os) ws vs a (h, k) = (h, rw (alike_len (o ∷ os) ws vs a o (elem_here o os)) (alike_chain (end_at ws o) hi os ws vs (alike_later o os ws vs a) k))
 
 -- ---- a new word 1 with the same deleted bit and class
 module _ (hi : ℕ) (os ws : List ℕ) (c : Chain 0 hi ws os) (room : hi ≤ length ws) (p : ℕ) (listed : elem p os ≡ true) where
