@@ -1,11 +1,9 @@
 -- What the cases of a literal's value and of a reason say. Assumes nothing.
 use mathlib.Core.Path.{◌≡◌, refl, sym, ap, ◌∙◌}
-use mathlib.Core.Bool.{Bool, true, false, cond, ◌&&◌}
-use mathlib.Core.Logic.{⊎_elim, ◌⊎◌, inl, inr}
+use mathlib.Core.Bool.{Bool, true, false, cond}
 use mathlib.Core.List.{List}
-use Prim.Native.Nat.{ℕ, ◌+◌}
+use Prim.Native.Nat.{ℕ}
 use native.Mathlib.Omega.{arith}
-use denote.Enum.Declared.{tag_of}
 use lib.Dec.{eqb}
 use borrow.Author.Tests.{eqb-true, eq-eqb, ne_eqb}
 use Rattle.laws.specs.Lists.{at}
@@ -14,11 +12,9 @@ use Rattle.kinds.specs.Held.{Held, is_true, is_open, value_of, node_of, assertin
 use Rattle.kinds.specs.Numbers.{reason_of}
 use Rattle.kinds.specs.declared.ClauseRef.{ClauseRef}
 use Rattle.kinds.specs.declared.LitValue.{LitValue}
-use Rattle.kinds.specs.contracts.LitValue as value
 use Rattle.kinds.specs.declared.LitValue.TheVariants.{True, False, Unassigned}
 use Rattle.kinds.specs.declared.Node.{Node}
 use Rattle.kinds.specs.declared.Reason.{Reason}
-use Rattle.kinds.specs.contracts.Reason as reason
 use Rattle.kinds.specs.declared.Reason.TheVariants.{None, Unit, Binary, Long, Removed}
 use Rattle.asserting.specs.Reads.{asserting_in}
 
@@ -26,19 +22,19 @@ abbrev chosen : Bool → Bool → LitValue
 chosen t o = cond t True (cond o Unassigned False)
 
 module _ (a : List ℕ) (l : ℕ) {v : LitValue} (e : v ≡ value_of a l) where
-  true_told : tag_of value.the_type v ≡ 0 → is_true a l ≡ true
-  true_told t = go (is_true a l) (is_open a l) (rw e at t)
+  true_told : v ≡ True → is_true a l ≡ true
+  true_told t = go (is_true a l) (is_open a l) (sym e ∙ t)
     where
-      go : (t o : Bool) → tag_of value.the_type (chosen t o) ≡ 0 → t ≡ true
+      go : (t o : Bool) → chosen t o ≡ True → t ≡ true
       go true o q = refl
-      go false true q = absurd (omega arith)
-      go false false q = absurd (omega arith)
+      go false true q = cc
+      go false false q = cc
 
-  not_true_told : (tag_of value.the_type v ≡ 1) ⊎ (tag_of value.the_type v ≡ 2) → is_true a l ≡ false
-  not_true_told t = go (is_true a l) (is_open a l) (rw e at t)
+  not_true_told : (v ≡ True → ⊥) → is_true a l ≡ false
+  not_true_told t = go (is_true a l) (is_open a l) (λ z. t (e ∙ z))
     where
-      go : (t o : Bool) → (tag_of value.the_type (chosen t o) ≡ 1) ⊎ (tag_of value.the_type (chosen t o) ≡ 2) → t ≡ false
-      go true o q = absurd (⊎_elim (λ z. omega arith) (λ z. omega arith) q)
+      go : (t o : Bool) → (chosen t o ≡ True → ⊥) → t ≡ false
+      go true o q = absurd (q refl)
       go false o q = refl
 
 long_told : (k x : ℕ) (o : ClauseRef) → Long o ≡ reason_of k x → (k ≡ 3) × (o.0 ≡ x)
@@ -51,10 +47,8 @@ long_told k x o e = go (eqb k 1) (eqb k 2) (eqb k 3) (eqb k 4) refl e
     go false false false true q r = let z : ◌≡◌ {A = ℕ} 0 1 = cc in absurd (omega arith)
     go false false false false q r = let z : ◌≡◌ {A = ℕ} 0 1 = cc in absurd (omega arith)
 
-not_long_told : (k x : ℕ) {r : Reason} → r ≡ reason_of k x → (tag_of reason.the_type r ≡ 0) ⊎ ((tag_of reason.the_type r ≡ 1) ⊎ ((tag_of reason.the_type r ≡ 2) ⊎ (tag_of reason.the_type r ≡ 4))) → k ≡ 3 → ⊥
-not_long_told k x {r} e t q =
-    let z : tag_of reason.the_type r ≡ 3 = rw (e, q) in
-    ⊎_elim (λ a. omega arith) (λ b. ⊎_elim (λ a. omega arith) (λ d. ⊎_elim (λ a. omega arith) (λ a. omega arith) d) b) t
+not_long_told : (k x : ℕ) {r : Reason} → r ≡ reason_of k x → ((y : ClauseRef) → r ≡ Long y → ⊥) → k ≡ 3 → ⊥
+not_long_told k x {r} e t q = t (record { 0 = x }) (rw (e, q))
 
 -- ---- each way through: x is the variable of the first literal
 
@@ -62,15 +56,15 @@ module _ (words values kinds reasons levels : List ℕ) (o : ℕ) {v : LitValue}
   abbrev l : ℕ
   l = first_at words o
 
-  pub not_true : (tag_of value.the_type v ≡ 1) ⊎ (tag_of value.the_type v ≡ 2) → false ≡ asserting_in words values kinds reasons o
+  pub not_true : (v ≡ True → ⊥) → false ≡ asserting_in words values kinds reasons o
   unfolding asserting_in
   not_true t = rw (not_true_told values l told t)
 
-  module _ (t : tag_of value.the_type v ≡ 0) (x : ℕ) (var : x ≡ var_of l) (n : Node) (node : n ≡ node_of kinds reasons levels x) where
+  module _ (t : v ≡ True) (x : ℕ) (var : x ≡ var_of l) (n : Node) (node : n ≡ node_of kinds reasons levels x) where
     kind_is : n.reason ≡ reason_of (at kinds (var_of l)) (at reasons (var_of l))
     kind_is = ap (λ (m : Node). m.reason) node ∙ ap (λ (y : ℕ). reason_of (at kinds y) (at reasons y)) var
 
-    pub not_long : (tag_of reason.the_type n.reason ≡ 0) ⊎ ((tag_of reason.the_type n.reason ≡ 1) ⊎ ((tag_of reason.the_type n.reason ≡ 2) ⊎ (tag_of reason.the_type n.reason ≡ 4))) → false ≡ asserting_in words values kinds reasons o
+    pub not_long : ((y : ClauseRef) → n.reason ≡ Long y → ⊥) → false ≡ asserting_in words values kinds reasons o
     unfolding asserting_in
     not_long q = rw (true_told values l told t, ne_eqb (at kinds (var_of l)) 3 (not_long_told (at kinds (var_of l)) (at reasons (var_of l)) kind_is q))
 
