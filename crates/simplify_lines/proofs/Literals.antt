@@ -1,14 +1,13 @@
 -- Literals read one by one under an assignment, and those of them that are not false. Assumes nothing.
-use mathlib.Core.Path.{◌≡◌, refl, sym, ap, ap₂, ◌∙◌, subst}
-use mathlib.Core.Bool.{Bool, true, false, cond, not, ◌&&◌, ◌||◌}
-use mathlib.Core.Logic.{⊎_elim, ◌⊎◌}
-use mathlib.Core.List.{List, [], ◌∷◌, ◌++◌}
-use Prim.Native.Nat.{ℕ, zero, suc, ◌+◌, ◌-◌, ◌/◌, ◌%◌, ◌≤◌, ◌<◌}
+use mathlib.Core.Path.{◌≡◌, refl, sym, ap, ◌∙◌}
+use mathlib.Core.Bool.{Bool, true, false, cond, not, ◌||◌}
+use mathlib.Core.Logic.{⊎_elim, ◌⊎◌, inl, inr}
+use mathlib.Core.List.{List, [], ◌∷◌}
+use Prim.Native.Nat.{ℕ, zero, suc, ◌+◌, ◌-◌, ◌≤◌, ◌<◌}
 use native.Mathlib.Omega.{arith}
 use native.Mathlib.Nat.{add-zero, add-suc, suc-add}
-use native.Mathlib.Numerals.{add-one}
 use denote.Enum.Declared.{tag_of}
-use lib.ListN.{length, get_or}
+use lib.ListN.{length}
 use lib.Dec.{eqb}
 use borrow.Author.Tests.{eq-eqb, ne_eqb, eqb-true, eqb-false}
 use Rattle.laws.specs.Lists.{at, read_n}
@@ -25,6 +24,17 @@ use Rattle.calls.specs.Simplifying.{any_true, unfalsified, verdict_of}
 -- ---- what a literal's value says: 0 true, 1 false, 2 unassigned
 abbrev pub tag : LitValue → ℕ
 tag v = tag_of value.the_type v
+
+-- what is left where arms took some of them
+pub tag_kept : (v : LitValue) → (v ≡ False → ⊥) → (tag v ≡ 0) ⊎ (tag v ≡ 2)
+tag_kept True h = inl refl
+tag_kept False h = absurd (h refl)
+tag_kept Unassigned h = inr refl
+
+pub tag_dropped : (v : LitValue) → (v ≡ True → ⊥) → (v ≡ Unassigned → ⊥) → tag v ≡ 1
+tag_dropped True h g = absurd (h refl)
+tag_dropped False h g = refl
+tag_dropped Unassigned h g = absurd (g refl)
 
 bits_open : (t o : Bool) → tag (cond t True (cond o Unassigned False)) ≡ 2 → (t ≡ false) × (not (t || o) ≡ false)
 bits_open true o e = absurd (omega arith)
@@ -144,6 +154,11 @@ module _ {a words : List ℕ} {o len j kept : ℕ} (R : Reading a words o len j 
 -- ---- what a verdict says
 abbrev pub vtag : Verdict → ℕ
 vtag v = tag_of verdict.the_type v
+
+pub vtag_satisfied : (v : Verdict) → ((m : ℕ) → v ≡ Shorter m → ⊥) → (v ≡ Same → ⊥) → vtag v ≡ 0
+vtag_satisfied Satisfied h g = refl
+vtag_satisfied Same h g = absurd (g refl)
+vtag_satisfied (Shorter m) h g = absurd (h m refl)
 
 says_satisfied : (t s : Bool) (m : ℕ) → vtag (cond t Satisfied (cond s Same (Shorter m))) ≡ 0 → t ≡ true
 says_satisfied true s m e = refl
