@@ -1,7 +1,7 @@
 // The walk program: reads at most 64 KiB from standard input and carries out one line after the other.
 #![tactic(auto)]
 
-ghost use Rattle.std.specs.Prelude.{◌≡◌, ◌+◌, ◌≤◌, length};
+ghost use Rattle.std.specs.Prelude.{◌≡◌, ◌+◌, ◌≤◌, length, IfOk};
 
 use kinds::{ClauseActivity, State};
 use std::io;
@@ -127,9 +127,24 @@ fn write_part(rt: &impl Print, out: &[u8], filled: usize) -> io::Result<()> {
     rt.write_all(&out[0..n])
 }
 
-// Reads standard input, carries out its lines and writes what they print. Ends early with the error of a read or a write that fails.
-pub fn run(rt: &(impl Alloc + Input + Print)) -> io::Result<()> {
-    let mut text = Vec::new(rt.alloc());
-    rt.reader().take(65536).read_to_end(&mut text)?;
-    walk_through(rt, &text)
+// Reads until the buffer is full or the input ends, and returns how many bytes of the buffer it filled.
+fn read_full(input: &mut impl Read, buf: &mut [u8]) -> io::Result<usize>
+    ensures { IfOk result (λ n. n ≤ length buf.new) }
+{
+    let mut filled = 0;
+    while filled < buf.len() {
+        let n = input.read(&mut buf[filled..])?;
+        if n == 0 {
+            break;
+        }
+        filled += n;
+    }
+    Ok(filled)
+}
+
+// Reads standard input, carries out its lines and writes what they print. A read or a write that fails ends it there, with its error.
+pub fn run(rt: &(impl Input + Print)) -> io::Result<()> {
+    let mut input = [0u8; 65536];
+    let n = read_full(&mut rt.reader(), &mut input)?;
+    walk_through(rt, &input[0..n])
 }
