@@ -1,7 +1,9 @@
 // A passing store of 10000 clauses is built and judged; the judging's number is written.
 #![tactic(auto)]
 
-fn main() {
+use std::io;
+
+fn main(rt: HostRuntime) -> io::Result<()> {
     let mut words = [0u32; 70000];
     let mut clauses = [0u32; 10000];
     let mut irred = [0u32; 2500];
@@ -32,6 +34,5 @@ fn main() {
         state, &mut words, &clauses, &irred, &core, &mid, &local, &rows, &counts, &rec, &values,
         &kinds, &reasons, &levels, &trail, 20000, 0,
     );
-    io::print_decimal(1, number as u64);
-    io::write_all(1, b"\n");
+    println!(rt; "{number}")
 }

@@ -1,6 +1,8 @@
 // `store-walk`: see docs/walk.md.
 #![tactic(auto)]
 
-fn main() {
-    walk_run::run();
+use std::io;
+
+fn main(rt: HostRuntime) -> io::Result<()> {
+    walk_run::run(&rt)
 }

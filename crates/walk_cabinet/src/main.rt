@@ -1,6 +1,8 @@
 // The walk program on examples/cabinet.walk (docs/walk.md tells the story).
 #![tactic(auto)]
 
-fn main() {
-    walk_run::run();
+use std::io;
+
+fn main(rt: HostRuntime) -> io::Result<()> {
+    walk_run::run(&rt)
 }

@@ -1,6 +1,8 @@
 // The walk program on the edges of document 01 (oracle/edges.py).
 #![tactic(auto)]
 
-fn main() {
-    walk_run::run();
+use std::io;
+
+fn main(rt: HostRuntime) -> io::Result<()> {
+    walk_run::run(&rt)
 }

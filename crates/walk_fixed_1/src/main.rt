@@ -1,6 +1,8 @@
 // The walk program on part 1 of the fixed list (oracle/README.md).
 #![tactic(auto)]
 
-fn main() {
-    walk_run::run();
+use std::io;
+
+fn main(rt: HostRuntime) -> io::Result<()> {
+    walk_run::run(&rt)
 }

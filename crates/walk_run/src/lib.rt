@@ -1,9 +1,11 @@
 // The walk program: reads at most 64 KiB from standard input and carries out one line after the other.
 #![tactic(auto)]
 
-ghost use Rattle.std.specs.Prelude.{◌≡◌, ◌+◌, ◌≤◌, length};
+ghost use Rattle.std.specs.Prelude.{◌≡◌, ◌+◌, ◌≤◌, length, IfOk};
 
 use kinds::{ClauseActivity, State};
+use std::io;
+use std::io::Read;
 use walk_kinds::{Rooms, Walk};
 
 // "Before the first `start`, and after nothing else, V is 0 and all else is 0". All rooms are lent whole.
@@ -66,7 +68,7 @@ fn behind(text: &[u8], end: usize) -> usize
 }
 
 // Every line of a text, with what it prints on standard output.
-fn walk_through(text: &[u8]) {
+fn walk_through(rt: &impl Print, text: &[u8]) -> io::Result<()> {
     let mut words = [0u32; 16384];
     let mut clauses = [0u32; 4096];
     let mut irred = [0u32; 4096];
@@ -109,24 +111,40 @@ fn walk_through(text: &[u8]) {
             &mut out,
         );
         walk = printed.walk;
-        write_page(&out, printed.filled);
+        write_page(rt, &out, printed.filled)?;
         from = next;
     }
+    Ok(())
 }
 
 // The filled part of a page.
-fn write_page(out: &[u8; 1048576], filled: usize) {
-    write_part(out, filled);
+fn write_page(rt: &impl Print, out: &[u8; 1048576], filled: usize) -> io::Result<()> {
+    write_part(rt, out, filled)
 }
 
-fn write_part(out: &[u8], filled: usize) {
+fn write_part(rt: &impl Print, out: &[u8], filled: usize) -> io::Result<()> {
     let n = walk_kinds::least(filled, out.len());
-    io::write_all(1, &out[0..n]);
+    rt.write_all(&out[0..n])
 }
 
-pub fn run() {
+// Reads until the buffer is full or the input ends, and returns how many bytes of the buffer it filled.
+fn read_full(input: &mut impl Read, buf: &mut [u8]) -> io::Result<usize>
+    ensures { IfOk result (λ n. n ≤ length buf.new) }
+{
+    let mut filled = 0;
+    while filled < buf.len() {
+        let n = input.read(&mut buf[filled..])?;
+        if n == 0 {
+            break;
+        }
+        filled += n;
+    }
+    Ok(filled)
+}
+
+// Reads standard input, carries out its lines and writes what they print. A read or a write that fails ends it there, with its error.
+pub fn run(rt: &(impl Input + Print)) -> io::Result<()> {
     let mut input = [0u8; 65536];
-    let n = io::read_full(0, &mut input);
-    let given = walk_kinds::least(n, 65536);
-    walk_through(&input[0..given]);
+    let n = read_full(&mut rt.reader(), &mut input)?;
+    walk_through(rt, &input[0..n])
 }
