@@ -1,7 +1,7 @@
 -- What each clause adds to the record and to the rows, by its verdict. Assumes nothing.
 use mathlib.Core.Path.{◌≡◌, refl, sym, ap, ap₂, ◌∙◌, subst}
 use mathlib.Core.Bool.{Bool, true, false, cond, not, ◌&&◌, ◌||◌}
-use mathlib.Core.Logic.{⊎_elim, ◌⊎◌}
+use mathlib.Core.Logic.{⊎_elim, ◌⊎◌, inl, inr}
 use mathlib.Core.List.{List, [], ◌∷◌}
 use Prim.Native.Nat.{ℕ, zero, suc, ◌+◌, ◌-◌, ◌*◌, ◌^◌, ◌≤◌, ◌<◌}
 use native.Mathlib.Omega.{arith}
@@ -53,6 +53,12 @@ verdict_small a ws o h e = rw e (go (any_true a (lits_at ws o)) (eqb (length (un
     go true s = omega arith
     go false true = omega arith
     go false false = omega (arith, unfalsified_length a (lits_at ws o), length_read ws (o + 3) (len_at ws o))
+
+-- what is left where an arm took `Shorter`
+pub vtag_left : (v : Verdict) → ((m : ℕ) → v ≡ Shorter m → ⊥) → (vtag v ≡ 0) ⊎ (vtag v ≡ 1)
+vtag_left Satisfied h = inl refl
+vtag_left Same h = inr refl
+vtag_left (Shorter m) h = absurd (h m refl)
 
 -- ---- rows
 module _ (a ws l t : List ℕ) (i : ℕ) where
