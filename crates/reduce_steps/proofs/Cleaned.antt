@@ -1,23 +1,22 @@
 -- The entries that a tier's list keeps, in a store that passes. Assumes nothing.
-use mathlib.Core.Path.{◌≡◌, refl, sym, ap, ◌∙◌, subst}
+use mathlib.Core.Path.{◌≡◌, sym, ◌∙◌, subst}
 use mathlib.Core.Bool.{Bool, true, false, not, ◌&&◌, true≢false}
 use mathlib.Core.Logic.{⊎_elim, ◌⊎◌, inl, inr}
-use mathlib.Core.List.{List, [], ◌∷◌}
+use mathlib.Core.List.{List, []}
 use Prim.Native.Nat.{ℕ, ◌+◌, ◌*◌, ◌/◌, ◌%◌, ◌^◌, ◌≤◌, ◌<◌}
 use native.Mathlib.Omega.{arith}
-use lib.ListN.{length, get_or, take}
-use lib.Seq.{length-take-le}
+use lib.ListN.{length, get_or}
 use lib.Dec.{eqb}
 use borrow.Author.Tests.{eqb-true}
 use Rattle.laws.specs.Fold.{fold_list, one}
 use Rattle.laws.specs.Lists.{at, list_at}
-use Rattle.laws.proofs.Members.{In, Distinct, sum_list, sum_part}
+use Rattle.laws.proofs.Members.{In, Distinct, sum_part}
 use Rattle.laws.proofs.Entries.{elem_none, elem_index}
 use Rattle.laws.proofs.Subsets.{sum_few}
-use Rattle.kinds.specs.Header.{mark_of, deleted_of}
-use Rattle.kinds.specs.Clauses.{head_at, len_at, size_at, end_at, first_at, tier_at, deleted_at}
-use Rattle.calls.specs.Reducing.{stale, kept_first}
-use Rattle.passing.proofs.Store.{Store, Live, Sound, Stale, in_tier_lem, live_words, chain_in, chain_distinct}
+use Rattle.kinds.specs.Header.{deleted_of}
+use Rattle.kinds.specs.Clauses.{head_at, size_at, end_at, first_at, tier_at, deleted_at}
+use Rattle.calls.specs.Reducing.{kept_first}
+use Rattle.passing.proofs.Store.{Store, Live, Stale, in_tier_lem, live_words, chain_in}
 use Rattle.passing.proofs.Changes.{in_tier_yes, words_live}
 use Rattle.passing.proofs.Reduce.{Ready, firsts_in, in_firsts, firsts_distinct, fresh_deleted, fresh_tier, fresh}
 use Rattle.dedup.specs.Marks.{Entry, Entries}

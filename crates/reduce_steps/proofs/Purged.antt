@@ -1,11 +1,11 @@
 -- Reducing locals, on what is lent. Assumes nothing.
 use mathlib.Core.Path.{◌≡◌, refl, sym, ap, ap₂, ◌∙◌, subst}
-use mathlib.Core.Bool.{Bool, true, false, not}
+use mathlib.Core.Bool.{not}
 use mathlib.Core.List.{List, [], ◌∷◌, ◌++◌}
-use Prim.Native.Nat.{ℕ, ◌+◌, ◌-◌, ◌*◌, ◌/◌, ◌^◌, ◌≤◌, ◌<◌}
+use Prim.Native.Nat.{ℕ, ◌-◌, ◌/◌, ◌^◌, ◌≤◌}
 use native.Mathlib.Omega.{arith}
 use lib.ListN.{length, get_or, set, take, drop, replicate, length-append}
-use lib.Seq.{sets, length-take-le, take_at, drop_at, get_or-take}
+use lib.Seq.{sets, length-take-le, take_at, drop_at}
 use lib.Dec.{eqb}
 use Rattle.laws.specs.Fold.{fold_list}
 use Rattle.laws.specs.Lists.{at, list_at, lengths, take_each, fill, fill_each, sort_by}
@@ -13,10 +13,8 @@ use Rattle.laws.proofs.Fills.{fill_same}
 use Rattle.laws.proofs.Walks.{drop_more}
 use Rattle.laws.proofs.SortLengths.{length_sort}
 use Rattle.laws.proofs.Entries.{elem_index}
-use Rattle.laws.proofs.Members.{In}
 use Rattle.laws.proofs.Distinct.{sort_in, distinct_sort}
 use Rattle.kinds.specs.Lent.{Lent, Host, lent, with_tier_buffers}
-use Rattle.kinds.specs.Held.{Held, asserting}
 use Rattle.kinds.specs.Layout.{view, side, lay, lay_state, lay_host}
 use Rattle.kinds.specs.Setters.{state_of}
 use Rattle.kinds.specs.declared.State.{State}

@@ -1,7 +1,7 @@
 -- Reducing locals, entry by entry. Assumes nothing.
 use mathlib.Core.Path.{◌≡◌, refl, sym, ap, ap₂, ◌∙◌, subst}
 use mathlib.Core.Bool.{Bool, true, false, cond, ◌||◌, true≢false}
-use mathlib.Core.List.{List, [], ◌∷◌, ◌++◌, append_assoc}
+use mathlib.Core.List.{List, [], ◌∷◌, ◌++◌}
 use Prim.Native.Nat.{ℕ, zero, suc, ◌+◌, ◌-◌, ◌*◌, ◌/◌, ◌≤◌, ◌<◌}
 use native.Mathlib.Numerals.{add-one}
 use native.Mathlib.Omega.{arith}
@@ -11,7 +11,7 @@ use lib.Dec.{eqb}
 use borrow.Author.Tests.{eq-eqb, ne_eqb}
 use Rattle.laws.specs.Fold.{fold_list}
 use Rattle.laws.specs.Lists.{at, list_at, snoc, less}
-use Rattle.laws.proofs.Members.{In, Distinct}
+use Rattle.laws.proofs.Members.{Distinct}
 use Rattle.laws.proofs.Entries.{elem_here, elem_later}
 use Rattle.laws.proofs.Walks.{drop_more, at_more, left_next, left_none, walk_next, walk_none}
 use Rattle.laws.proofs.Reading.{length_read}

@@ -1,7 +1,7 @@
 -- Reducing mids, entry by entry. Assumes nothing.
 use mathlib.Core.Path.{◌≡◌, refl, sym, ap, ap₂, ◌∙◌, subst}
-use mathlib.Core.Bool.{Bool, true, false, cond, true≢false}
-use mathlib.Core.List.{List, [], ◌∷◌, ◌++◌}
+use mathlib.Core.Bool.{Bool, true, false, cond}
+use mathlib.Core.List.{List, [], ◌∷◌}
 use Prim.Native.Nat.{ℕ, ◌+◌, ◌-◌, ◌≤◌, ◌<◌}
 use native.Mathlib.Numerals.{add-one}
 use native.Mathlib.Omega.{arith}
@@ -11,7 +11,7 @@ use lib.Dec.{eqb}
 use borrow.Author.Tests.{ne_eqb}
 use Rattle.laws.specs.Fold.{fold_list}
 use Rattle.laws.specs.Lists.{at, list_at, snoc, more, less, push}
-use Rattle.laws.proofs.Members.{In, Distinct}
+use Rattle.laws.proofs.Members.{Distinct}
 use Rattle.laws.proofs.Entries.{elem_here}
 use Rattle.laws.proofs.Pushes.{pushed_here, pushed_other, length_push}
 use Rattle.laws.proofs.Walks.{drop_more, at_more, left_next, left_none, walk_next, walk_none}
@@ -19,7 +19,7 @@ use Rattle.kinds.specs.Header.{with_active, with_tier}
 use Rattle.kinds.specs.Clauses.{head_at, tier_at, active_at, change_head}
 use Rattle.kinds.specs.Held.{Held, held_of}
 use Rattle.calls.specs.Adding.{moved_to, tier_set}
-use Rattle.calls.specs.Reducing.{cleaned_tier, tier_emptied, mid_kept, mid_done, mids_reduced}
+use Rattle.calls.specs.Reducing.{cleaned_tier, mid_kept, mid_done, mids_reduced}
 use Rattle.passing.proofs.Store.{Store, Live}
 use Rattle.passing.proofs.Heads.{active_alike}
 use Rattle.passing.proofs.Changes.{head_store, moved_store}

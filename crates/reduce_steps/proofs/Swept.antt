@@ -1,8 +1,7 @@
 -- Reducing mids, on what is lent. Assumes nothing.
 use mathlib.Core.Path.{◌≡◌, refl, sym, ap, ap₂, ◌∙◌, subst}
-use mathlib.Core.Bool.{Bool, true, false}
-use mathlib.Core.List.{List, [], ◌∷◌, ◌++◌}
-use Prim.Native.Nat.{ℕ, ◌+◌, ◌-◌, ◌^◌, ◌≤◌, ◌<◌}
+use mathlib.Core.List.{List, [], ◌∷◌}
+use Prim.Native.Nat.{ℕ, ◌-◌, ◌^◌, ◌≤◌, ◌<◌}
 use native.Mathlib.Omega.{arith}
 use lib.ListN.{length, set, take, drop, replicate}
 use lib.Seq.{sets, length-take-le}
@@ -11,8 +10,7 @@ use Rattle.laws.specs.Lists.{at, list_at, lengths, take_each, fill, fill_each}
 use Rattle.laws.proofs.Fills.{fill_same}
 use Rattle.laws.proofs.Walks.{drop_more}
 use Rattle.kinds.specs.Lent.{Lent, lent_five, no_host, with_tier_buffers}
-use Rattle.kinds.specs.Held.{Held}
-use Rattle.kinds.specs.Layout.{view, side, lay, lay_state, lay_host, rows_of}
+use Rattle.kinds.specs.Layout.{view, side, lay, lay_state, lay_host}
 use Rattle.kinds.specs.Setters.{state_of}
 use Rattle.kinds.specs.declared.State.{State}
 use Rattle.kinds.proofs.TierLayout.{Within}
