@@ -1,6 +1,7 @@
 -- Literals read until a true one is met, unassigned ones counted; and tests of which none has held yet. Assumes nothing.
 use mathlib.Core.Path.{◌≡◌, refl, sym, ap, ap₂, ◌∙◌, subst}
 use mathlib.Core.Bool.{Bool, true, false, cond, not, ◌&&◌, ◌||◌}
+use mathlib.Core.Logic.{⊎_elim, ◌⊎◌}
 use mathlib.Core.List.{List, [], ◌∷◌}
 use Prim.Native.Nat.{ℕ, zero, suc, ◌+◌, ◌-◌, ◌%◌, ◌≤◌, ◌<◌}
 use native.Mathlib.Omega.{arith}
@@ -36,6 +37,9 @@ true_bits : (t o : Bool) → tag (cond t True (cond o Unassigned False)) ≡ 0 �
 true_bits true o e = refl
 true_bits false true e = absurd (omega arith)
 true_bits false false e = absurd (omega arith)
+
+pub left_one : (x : ℕ) → (x ≡ 1) ⊎ (x ≡ 2) → (x ≡ 0) ⊎ (x ≡ 1) → x ≡ 1
+left_one x p q = ⊎_elim (λ e. e) (λ e. ⊎_elim (λ f. absurd (omega arith)) (λ f. f) q) p
 
 -- what is left where two arms took the others
 pub tag_dropped : (v : LitValue) → (v ≡ True → ⊥) → (v ≡ Unassigned → ⊥) → tag v ≡ 1
