@@ -1,0 +1,5 @@
+use Rattle.store_kinds.proofs.Told.{told}
+use Rattle.store.proofs.mihorempo_empty_record.Goals as goal
+
+pub returns : goal.returns
+returns c = told c.plain.ensures.0 c.plain.ensures.1 c.plain.ensures.2 c.empty_record-reply.ensures
