@@ -1,59 +1,66 @@
 -- Entries that stay when deleted ones leave a list, one turn at a time. Assumes nothing.
 use mathlib.Core.Path.{◌≡◌, refl, sym, ap, ◌∙◌}
-use mathlib.Core.List.{List, [], ◌∷◌, ◌++◌, append-nil}
-use mathlib.Core.Bool.{Bool, true, false, cond}
+use mathlib.Core.List.{List, [], ◌∷◌, ◌++◌, append_assoc, append-nil}
+use mathlib.Core.Bool.{true, false}
 use Prim.Native.Nat.{ℕ, ◌+◌, ◌-◌, ◌≤◌, ◌<◌}
-use native.Mathlib.Nat.{add-zero}
 use native.Mathlib.Numerals.{add-one}
 use native.Mathlib.Omega.{arith}
-use lib.ListN.{length, set, take, drop, replicate}
-use lib.Seq.{take-suc, get_or-drop, drop-drop, take-suc-set, sets, length-take-le}
+use lib.ListN.{length, set, take, drop, replicate, length-append, drop_of_length-le}
+use lib.Seq.{drop-cons, drop_at, drop-set-lt, take-suc-set, sets, length-take-le}
+use Rattle.std.proofs.lemmas.List.{take-append-le}
 use Rattle.laws.specs.Lists.{at, fill}
+use Rattle.laws.proofs.Walks.{drop_more, at_more}
 use Rattle.laws.proofs.Filling.{fill_cleared}
 use Rattle.kinds.specs.Clauses.{deleted_at, undeleted}
-use Rattle.activity.specs.Stored.{Moved}
 
--- none more, or one
-abbrev last : Bool → ℕ → List ℕ
-last d o = cond d [] (o ∷ [])
+-- the first k of l stay, of m those from i on are not judged yet
+pub record Kept (ws m l : List ℕ) (i k : ℕ) : Type 0 where
+  pub few : k ≤ i
+  pub rest : drop i l ≡ drop i m
+  pub done : take k l ++ undeleted ws (drop i m) ≡ undeleted ws m
 
-undeleted_snoc : (ws xs : List ℕ) (o : ℕ) → undeleted ws (xs ++ (o ∷ [])) ≡ undeleted ws xs ++ last (deleted_at ws o) o
+pub kept_none : (ws m : List ℕ) → Kept ws m m 0 0
+kept_none ws m = record { few = omega arith; rest = refl; done = refl }
+
+module _ {ws m l : List ℕ} {i k : ℕ} (K : Kept ws m l i k) (same : length l ≡ length m) (h : i < length m) where
+  pub entry_is : at l i ≡ at m i
+  entry_is = at_more i i l m (omega arith) K.rest
+
+  todo : drop i m ≡ at l i ∷ drop (i + 1) m
+  todo = rw (add-one, entry_is, drop-cons m i 0 h)
+
+  pub kept_dropped : deleted_at ws (at l i) ≡ true → Kept ws m l (i + 1) k
+  unfolding undeleted
+  kept_dropped d = record {
+    few = omega (arith, K.few);
+    rest = drop_more i (i + 1) l m (omega arith) K.rest;
+    done = let e = rw todo at K.done in rw d at e;
+  }
+
+  pub kept_more : deleted_at ws (at l i) ≡ false → Kept ws m (set l k (at l i)) (i + 1) (k + 1)
+  unfolding undeleted
+  kept_more d = record {
+    few = omega (arith, K.few);
+    rest = drop-set-lt (i + 1) l k (at l i) (omega (arith, K.few)) ∙ drop_more i (i + 1) l m (omega arith) K.rest;
+    done =
+        let e = rw todo at K.done in
+        let put : take (k + 1) (set l k (at l i)) ≡ take k l ++ (at l i ∷ []) = rw add-one (take-suc-set l k (at l i) (omega (arith, K.few))) in
+        rw (put, append_assoc) (rw d at e);
+  }
+
+pub kept_all : {ws m l : List ℕ} {i k : ℕ} → Kept ws m l i k → length m ≤ i → take k l ≡ undeleted ws m
 unfolding undeleted
-undeleted_snoc ws [] o = refl
-undeleted_snoc ws (x ∷ xs) o = go (deleted_at ws x) (undeleted_snoc ws xs o)
-  where
-    go : (b : Bool) → undeleted ws (xs ++ (o ∷ [])) ≡ undeleted ws xs ++ last (deleted_at ws o) o
-        → cond b (undeleted ws (xs ++ (o ∷ []))) (x ∷ undeleted ws (xs ++ (o ∷ []))) ≡ cond b (undeleted ws xs) (x ∷ undeleted ws xs) ++ last (deleted_at ws o) o
-    go true e = e
-    go false e = ap (λ (r : List ℕ). x ∷ r) e
+kept_all {ws} {m} {l} {i} {k} K h =
+    let e = rw (drop_of_length-le m {i = i} h) at K.done in
+    sym (append-nil (take k l)) ∙ e
 
--- the part that is not read yet is as it was
-pub same_next : (l m : List ℕ) (i : ℕ) → drop i l ≡ drop i m → at l i ≡ at m i
-same_next l m i e = sym (first l) ∙ ap (λ (r : List ℕ). at r 0) e ∙ first m
-  where
-    first : (r : List ℕ) → at (drop i r) 0 ≡ at r i
-    first r = get_or-drop i r 0 0 ∙ ap (at r) (add-zero i)
-
-pub same_rest : (l m : List ℕ) (i : ℕ) → drop i l ≡ drop i m → drop (i + 1) l ≡ drop (i + 1) m
-same_rest l m i e = sym (drop-drop 1 i l) ∙ ap (drop 1) e ∙ drop-drop 1 i m
-
-module _ (ws l m : List ℕ) (i n : ℕ) (h : i < length m) (t : take n l ≡ undeleted ws (take i m)) where
-  next : undeleted ws (take (i + 1) m) ≡ undeleted ws (take i m) ++ last (deleted_at ws (at m i)) (at m i)
-  next = ap (undeleted ws) (ap (λ (k : ℕ). take k m) (add-one i) ∙ take-suc m i 0 h) ∙ undeleted_snoc ws (take i m) (at m i)
-
-  pub entry_dropped : deleted_at ws (at m i) ≡ true → take n l ≡ undeleted ws (take (i + 1) m)
-  entry_dropped d = t ∙ sym (append-nil (undeleted ws (take i m))) ∙ ap (λ (b : Bool). undeleted ws (take i m) ++ last b (at m i)) (sym d) ∙ sym next
-
-  pub entry_kept : n < length l → deleted_at ws (at m i) ≡ false → take (n + 1) (set l n (at m i)) ≡ undeleted ws (take (i + 1) m)
-  entry_kept g d =
-      ap (λ (k : ℕ). take k (set l n (at m i))) (add-one n) ∙ take-suc-set l n (at m i) g
-      ∙ ap (λ (r : List ℕ). r ++ (at m i ∷ [])) t ∙ ap (λ (b : Bool). undeleted ws (take i m) ++ last b (at m i)) (sym d) ∙ sym next
-
--- the entries that stay were moved to the front, and what they gave up was cleared
-pub dropped : (ws before after end : List ℕ) (n r : ℕ) → n ≤ length before → length after ≡ length before → Moved ws before after n r → end ≡ sets after r (replicate (n - r) 0)
-    → (end ≡ fill before n (undeleted ws (take n before))) × (r ≡ length (undeleted ws (take n before)))
-dropped ws before after end n r h k m e =
-    let f = m.fewer in (
-      e ∙ fill_cleared before after n r f (omega arith) m.behind ∙ ap (fill before n) m.front,
-      sym (length-take-le r after (omega arith)) ∙ ap length m.front,
+-- the entries that stay were moved to the front of the first n, and what they gave up was cleared
+pub dropped : (ws clauses now : List ℕ) (n r : ℕ) → n ≤ length clauses → length now ≡ length (take n clauses) → r ≤ length (take n clauses) → take r now ≡ undeleted ws (take n clauses)
+    → (sets (now ++ drop n clauses) r (replicate (n - r) 0) ≡ fill clauses n (undeleted ws (take n clauses))) × (r ≡ length (undeleted ws (take n clauses)))
+dropped ws clauses now n r h e few front =
+    let all : length now ≡ n = e ∙ length-take-le n clauses h in
+    let r_in : r ≤ length now = omega arith in
+    let kept : take r (now ++ drop n clauses) ≡ undeleted ws (take n clauses) = rw take-append-le front in (
+      fill_cleared clauses (now ++ drop n clauses) n r (omega arith) (omega (arith, length-append now (drop n clauses))) (drop_at now (drop n clauses) n all) ∙ ap (fill clauses n) kept,
+      sym (length-take-le r now r_in) ∙ ap length front,
     )

@@ -1,7 +1,7 @@
 -- What bump, decay and rescale change of a store: the words, the clause list with its used length, bump and inverse decay.
-use Rattle.std.specs.Prelude.{◌≡◌, false, List, [], ℕ, ◌+◌, ◌≤◌, ◌<◌, length, take, drop}
+use Rattle.std.specs.Prelude.{◌≡◌, false, List, [], ℕ, ◌+◌, ◌≤◌, ◌<◌, length, take}
 use Rattle.laws.specs.Lists.{at, fill}
-use Rattle.kinds.specs.Clauses.{activity_at, deleted_at, undeleted}
+use Rattle.kinds.specs.Clauses.{activity_at, deleted_at}
 use Rattle.kinds.specs.Held.{Held, held_of}
 use Rattle.kinds.specs.declared.ClauseActivity.{ClauseActivity}
 
@@ -49,9 +49,3 @@ AllLoud words list = (k : ℕ) → k < length list → Loud words (at list k)
 -- the offset of a clause: no entry's word 1 stands there
 abbrev pub Away : List ℕ → ℕ → ℕ → Type 0
 Away clauses n offset = (k : ℕ) → k < n → at clauses k + 1 ≡ offset → ⊥
-
--- ---- entries that stay, moved to the front; the rest of the used ones is not cleared yet
-pub record Moved (words before after : List ℕ) (n r : ℕ) : Type 0 where
-  pub fewer : r ≤ n
-  pub front : take r after ≡ undeleted words (take n before)
-  pub behind : drop n after ≡ drop n before

@@ -1,7 +1,7 @@
 // Clause activities: bump, decay, rescale, and setting the decay.
 #![tactic(auto)]
 
-ghost use Rattle.std.specs.Prelude.{◌≡◌, true, ◌+◌, ◌<◌, length, set, take};
+ghost use Rattle.std.specs.Prelude.{◌≡◌, true, ℕ, ◌+◌, ◌≤◌, ◌<◌, length, set, take};
 ghost use Rattle.std.specs.Float.{binary32};
 ghost use Rattle.std.specs.Float.Ieee.{lt, to_bits};
 ghost use Rattle.laws.specs.Fold.{fold_list};
@@ -12,10 +12,10 @@ ghost use Rattle.kinds.specs.Lent.{lent_activity};
 ghost use Rattle.calls.specs.Bumping.{scaled_at, rescaled, activity_bumped, decayed};
 ghost use Rattle.calls.specs.Call.{set_decay};
 ghost use Rattle.calls.specs.Outcome.{done, nothing};
-ghost use Rattle.calls.specs.Answers.{plain_number};
-ghost use Rattle.activity.specs.Stored.{holding, stored, Placed, Bounded, twice_limit, AllLoud, Away, Moved};
+ghost use Rattle.calls.specs.Answers.{number_of, activity_after};
+ghost use Rattle.activity.specs.Stored.{holding, stored, Placed, Bounded, twice_limit, AllLoud, Away};
 
-use kinds::{ClauseActivity, DecayReply, Plain, Refusal};
+use kinds::{ClauseActivity, Refusal};
 
 // What bump, decay and rescale leave beside the buffers: the clause list's used length, bump and inverse decay.
 #[derive(Clone, Copy)]
@@ -28,7 +28,7 @@ pub struct Activities {
 pub fn rescale_limit() -> f32
     ensures { result ≡ limit }
 {
-    3.40282347e38f32 / 16.0
+    f32::MAX / 16.0
 }
 
 // "the rounded 1/limit"
@@ -42,28 +42,24 @@ pub fn rescale_factor() -> f32
 pub fn pattern(x: f32) -> u32
     ensures { result ≡ to_bits binary32 x }
 {
-    if x != x {
-        return 0x7fc0_0000;
-    }
-    f32::to_bits(x)
+    if x.is_nan() { 0x7fc0_0000 } else { x.to_bits() }
 }
 
 // ---- the clause list
 
 // Moves the entries that stay to the front; says how many.
-fn move_undeleted(words: &[u32], clauses: &mut [u32], n: usize) -> usize
-    requires { Placed words.now clauses.old n }
-    ensures { Moved words.now clauses.old clauses.new n result }
+fn move_undeleted(words: &[u32], list: &mut [u32]) -> usize
+    requires { (k : ℕ) → k < length list.old → at list.old k + 3 ≤ length words.now }
+    ensures few { result ≤ length list.old }
+    ensures front { take result list.new ≡ undeleted words.now list.old }
 {
-    let mut i = 0usize;
-    let mut kept = 0usize;
-    while i < n {
-        let entry = clauses[i];
+    let mut kept = 0;
+    for i in 0..list.len() {
+        let entry = list[i];
         let offset = entry as usize;
         let word = words[offset + 1];
-        i += 1;
         if !header::deleted_of(word) {
-            clauses[kept] = entry;
+            list[kept] = entry;
             kept += 1;
         }
     }
@@ -76,7 +72,7 @@ pub fn drop_deleted(words: &[u32], clauses: &mut [u32], n: usize) -> usize
     ensures { (clauses.new ≡ fill clauses.old n (undeleted words.now (take n clauses.old)))
         × (result ≡ length (undeleted words.now (take n clauses.old))) }
 {
-    let kept = move_undeleted(words, clauses, n);
+    let kept = move_undeleted(words, &mut clauses[..n]);
     buffers::clear(clauses, kept, n);
     kept
 }
@@ -89,11 +85,9 @@ fn scale(words: &mut [u32], list: &[u32])
     ensures { words.new ≡ fold_list scaled_at words.old list.now }
 {
     let factor = rescale_factor();
-    let mut i = 0usize;
-    while i < list.len() {
-        let offset = list[i] as usize;
-        words[offset] = f32::to_bits(f32::from_bits(words[offset]) * factor);
-        i += 1usize;
+    for r in list {
+        let offset = *r as usize;
+        words[offset] = (f32::from_bits(words[offset]) * factor).to_bits();
     }
 }
 
@@ -112,13 +106,9 @@ pub fn rescale(
     let kept = drop_deleted(words, clauses, n);
     scale(words, &clauses[..kept]);
     let bump = activity.bump * rescale_factor();
-    let inverse = activity.inv_decay;
     Activities {
         listed: kept,
-        activity: ClauseActivity {
-            bump: bump,
-            inv_decay: inverse,
-        },
+        activity: ClauseActivity { bump, ..activity },
     }
 }
 
@@ -131,7 +121,7 @@ fn raise(words: &mut [u32], offset: usize, bump: f32) -> bool
         × (result ≡ lt limit (bump_sum (at words.old offset) bump)) }
 {
     let sum = f32::from_bits(words[offset]) + bump;
-    words[offset] = f32::to_bits(sum);
+    words[offset] = sum.to_bits();
     sum > rescale_limit()
 }
 
@@ -148,13 +138,13 @@ pub fn bump_activity(
     ensures { record { words = words.exit.now; clauses = clauses.new; listed = result.listed; activity = result.activity }
         ≡ stored clauses.old n (activity_bumped offset (holding words.entry.now clauses.old n activity)) }
 {
-    let bump = activity.bump;
-    if raise(words, offset, bump) {
-        return rescale(words, clauses, n, activity);
-    }
-    Activities {
-        listed: n,
-        activity: activity,
+    if raise(words, offset, activity.bump) {
+        rescale(words, clauses, n, activity)
+    } else {
+        Activities {
+            listed: n,
+            activity,
+        }
     }
 }
 
@@ -171,52 +161,39 @@ pub fn decay_activity(
     ensures { record { words = words.exit.now; clauses = clauses.new; listed = result.listed; activity = result.activity }
         ≡ stored clauses.old n (decayed (holding words.entry.now clauses.old n activity)) }
 {
-    let inverse = activity.inv_decay;
-    let bump = activity.bump * inverse;
-    let grown = ClauseActivity {
-        bump: bump,
-        inv_decay: inverse,
-    };
+    let bump = activity.bump * activity.inv_decay;
+    let grown = ClauseActivity { bump, ..activity };
     if bump >= rescale_limit() {
-        return rescale(words, clauses, n, grown);
-    }
-    Activities {
-        listed: n,
-        activity: grown,
+        rescale(words, clauses, n, grown)
+    } else {
+        Activities {
+            listed: n,
+            activity: grown,
+        }
     }
 }
 
 // ---- setting the decay
 
 // 12: "decay not strictly between 1/16 and 1 (NaN included)"
+#[tactic(auto, unfolding(kinds::specs::Floats::decay_ok))]
 pub fn decay_ok(decay: f32) -> bool
     ensures { result ≡ decay_ok decay }
 {
     let p = pattern(decay);
-    if 0x3d80_0000 < p {
-        p < 0x3f80_0000
-    } else {
-        false
-    }
+    0x3d80_0000 < p && p < 0x3f80_0000
 }
 
 // "Setting the decay stores 1/decay."
-pub fn set_decay(a: ClauseActivity, decay: f32) -> DecayReply
-    ensures { record { number = plain_number result.answer; answer = nothing; then = lent_activity result.activity }
+pub fn set_decay(a: ClauseActivity, decay: f32) -> Result<ClauseActivity, Refusal>
+    ensures { record { number = number_of result; answer = nothing; then = lent_activity (activity_after a result) }
         ≡ done (set_decay decay) (lent_activity a) }
 {
     if !decay_ok(decay) {
-        return DecayReply {
-            answer: Plain::Refused(Refusal::Decay),
-            activity: a,
-        };
+        return Err(Refusal::Decay);
     }
-    let bump = a.bump;
-    DecayReply {
-        answer: Plain::Done,
-        activity: ClauseActivity {
-            bump: bump,
-            inv_decay: 1.0 / decay,
-        },
-    }
+    Ok(ClauseActivity {
+        inv_decay: 1.0 / decay,
+        ..a
+    })
 }

@@ -287,10 +287,9 @@ module _ (s : State) (words clauses irred core mid local levels : List ℕ) (o :
 
   -- ---- 6 and 11
 
-  -- b is what the search gave
-  pub refused_dead : (b : Bool) → b ≡ is_live words (take n clauses) o → not b ≡ true → 6 ≡ own_number (bump o) k
+  pub refused_dead : is_live words (take n clauses) o ≡ false → 6 ≡ own_number (bump o) k
   unfolding own_number refused_for own not_live view
-  refused_dead b e f = sym (ap (λ (x : ℕ). or_else x (cond (has_room (bump o) k) 0 11)) (gives 6 (not (is_live words (take n clauses) o)) [] (ap not (sym e) ∙ f)))
+  refused_dead e = sym (ap (λ (x : ℕ). or_else x (cond (has_room (bump o) k) 0 11)) (gives 6 (not (is_live words (take n clauses) o)) [] (ap not e)))
 
   module _ (r : BumpReady) where
     -- what is left is the room

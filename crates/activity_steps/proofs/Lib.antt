@@ -1,3 +1,3 @@
-pub mod Heads
+pub mod Room
 pub mod Decaying
 pub mod Bumping

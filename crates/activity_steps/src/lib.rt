@@ -1,4 +1,5 @@
 // The steps of activity.rs and assess.rs that change a store, on what is lent. Each stands on what the judging and the refusals have established.
+// The store's buffers are slices beside the state, each a parameter: "a state by value, slices beside it" (docs/01-scope.md, What must change shape).
 #![tactic(auto)]
 
 ghost use Rattle.std.specs.Prelude.{◌≡◌, [], true, ℕ, ◌+◌, ◌≤◌, ◌<◌, ◌^◌, length};
@@ -9,9 +10,10 @@ ghost use Rattle.kinds.specs.Layout.{view, lay};
 ghost use Rattle.calls.specs.Call.{bump, five_lists, five_lists_levels};
 ghost use Rattle.calls.specs.Bumping.{glue_for, tier_for, bumped, decayed};
 ghost use Rattle.calls.specs.Outcome.{judged, own_number};
+ghost use Rattle.calls.specs.Answers.{number_of};
 ghost use Rattle.assess.specs.Levelled.{Levelled};
 
-use kinds::{ClauseRef, State};
+use kinds::{ClauseRef, Refusal, State};
 
 // Decay is refused for nothing but 1 and 2 (`decay-allowed`).
 pub fn decay(
@@ -28,22 +30,11 @@ pub fn decay(
         ≡ lay five_lists (lent_five s words.old clauses.old irred.now core.now mid.now local.now no_host)
         (decayed (view (lent_five s words.old clauses.old irred.now core.now mid.now local.now no_host))) }
 {
-    let n = s.clauses;
-    let lens = s.tiers;
-    let counts = s.counts;
-    let activity = s.activity;
-    let left = activity::decay_activity(words, clauses, n, activity);
-    let kept = left.activity;
+    let left = activity::decay_activity(words, clauses, s.clauses, s.activity);
     State {
-        vars: s.vars,
-        words: s.words,
         clauses: left.listed,
-        tiers: lens,
-        recorded: s.recorded,
-        counts: counts,
-        garbage: s.garbage,
-        binary: s.binary,
-        activity: kept,
+        activity: left.activity,
+        ..s
     }
 }
 
@@ -54,17 +45,14 @@ fn glue_now(words: &[u32], levels: &[u32], offset: usize) -> usize
     requires { (end_at words.now offset ≤ length words.now) × (length words.now ≤ 2 ^ 24) × Levelled levels.now (lits_at words.now offset) }
     ensures { result ≡ glue_for levels.now (lits_at words.now offset) }
 {
-    let from = offset + 3;
-    let to = from + buffers::word(words, offset + 2);
-    assess::compute_glue(levels, &words[from..to])
+    assess::compute_glue(levels, alloc::lits(words, offset))
 }
 
 // "tier Core to 2, Mid to 6, Local above"
 fn tier_chosen(glue: usize) -> usize
     ensures { (result ≡ tier_for glue) × (result < 4) }
 {
-    let tier = assess::select_tier(glue);
-    tier.number() as usize
+    assess::select_tier(glue).number() as usize
 }
 
 // "set active"
@@ -73,8 +61,7 @@ fn activate(words: &mut [u32], offset: usize)
     ensures { words.new ≡ change_head (with_active true) offset words.old }
 {
     let place = offset + 1;
-    let head = words[place];
-    words[place] = header::with_active(head, true);
+    words[place] = header::with_active(words[place], true);
 }
 
 fn store_glue(words: &mut [u32], offset: usize, glue: usize)
@@ -82,8 +69,7 @@ fn store_glue(words: &mut [u32], offset: usize, glue: usize)
     ensures { words.new ≡ change_head (with_glue glue) offset words.old }
 {
     let place = offset + 1;
-    let head = words[place];
-    words[place] = header::with_glue(head, glue);
+    words[place] = header::with_glue(words[place], glue);
 }
 
 // "add bump to the activity, rescale if the sum exceeds the limit; set active; if the new glue is below the stored one, store it and choose the tier anew"
@@ -105,63 +91,28 @@ pub fn bump(
         (bumped cref.0 (view (lent_five s words.old clauses.old irred.old core.old mid.old local.old (levels_only levels.now)))) }
 {
     let offset = cref.0 as usize;
-    let n = s.clauses;
-    let lens = s.tiers;
-    let mut counts = s.counts;
-    let activity = s.activity;
     let glue = glue_now(words, levels, offset);
-    let left = activity::bump_activity(words, clauses, n, offset, activity);
-    let listed = left.listed;
-    let kept = left.activity;
+    let left = activity::bump_activity(words, clauses, s.clauses, offset, s.activity);
+    let mut next = s;
+    next.clauses = left.listed;
+    next.activity = left.activity;
     activate(words, offset);
-    let head = words[offset + 1];
-    let before = header::glue_of(head) as usize;
+    let before = header::glue_of(words[offset + 1]) as usize;
     if before <= glue {
-        return State {
-            vars: s.vars,
-            words: s.words,
-            clauses: listed,
-            tiers: lens,
-            recorded: s.recorded,
-            counts: counts,
-            garbage: s.garbage,
-            binary: s.binary,
-            activity: kept,
-        };
+        return next;
     }
     store_glue(words, offset, glue);
     let tier = tier_chosen(glue);
     let old = judge_words::tier_at(words, offset);
     if old == tier {
-        return State {
-            vars: s.vars,
-            words: s.words,
-            clauses: listed,
-            tiers: lens,
-            recorded: s.recorded,
-            counts: counts,
-            garbage: s.garbage,
-            binary: s.binary,
-            activity: kept,
-        };
+        return next;
     }
     let place = offset + 1;
-    let lower = words[place];
-    words[place] = header::with_tier(lower, tier as u32);
-    let tiers = tier_lists::push(irred, core, mid, local, lens, tier, cref.0);
-    counts[old] = counts[old] - 1;
-    counts[tier] = counts[tier] + 1;
-    State {
-        vars: s.vars,
-        words: s.words,
-        clauses: listed,
-        tiers: tiers,
-        recorded: s.recorded,
-        counts: counts,
-        garbage: s.garbage,
-        binary: s.binary,
-        activity: kept,
-    }
+    words[place] = header::with_tier(words[place], tier as u32);
+    next.tiers = tier_lists::push(irred, core, mid, local, s.tiers, tier, cref.0);
+    next.counts[old] -= 1;
+    next.counts[tier] += 1;
+    next
 }
 
 // 6, and 11 where the tier is chosen anew and its list is full.
@@ -175,31 +126,29 @@ pub fn refuse_bump(
     local: &[u32],
     levels: &[u32],
     cref: ClauseRef,
-) -> usize
+) -> Result<(), Refusal>
     requires { judged five_lists_levels (lent_five s words.now clauses.now irred.now core.now mid.now local.now (levels_only levels.now)) ≡ 0 }
-    ensures { result ≡ own_number (bump cref.0) (lent_five s words.now clauses.now irred.now core.now mid.now local.now (levels_only levels.now)) }
+    ensures { number_of result ≡ own_number (bump cref.0) (lent_five s words.now clauses.now irred.now core.now mid.now local.now (levels_only levels.now)) }
 {
     let offset = cref.0 as usize;
-    let used = s.words;
-    let n = s.clauses;
-    let lens = s.tiers;
-    if !judge_words::is_live(words, used, clauses, n, offset) {
-        return 6;
+    if !judge_words::is_live(words, s.words, clauses, s.clauses, offset) {
+        return Err(Refusal::Reference);
     }
     let glue = glue_now(words, levels, offset);
     let head = words[offset + 1];
     let before = header::glue_of(head) as usize;
     if before <= glue {
-        return 0;
+        return Ok(());
     }
     let tier = tier_chosen(glue);
     let old = header::tier_of(head) as usize;
     if old == tier {
-        return 0;
+        return Ok(());
     }
     let room = tier_lists::room(irred.len(), core.len(), mid.len(), local.len(), tier);
-    if lens[tier] < room {
-        return 0;
+    if s.tiers[tier] < room {
+        Ok(())
+    } else {
+        Err(Refusal::Room)
     }
-    11
 }

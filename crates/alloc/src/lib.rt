@@ -11,11 +11,11 @@ pub fn add_clause(words: &mut [u32], used: usize, tier: u32, glue: usize, lits: 
     requires { (used + (length lits.now + 3) ≤ length words.old) × (tier < 4) × (length lits.now < 2 ^ 32) }
     ensures { words.new ≡ sets words.old used (new_words tier glue lits.now) }
 {
-    let n = lits.len();
+    let start = used + 3;
     words[used] = 0;
     words[used + 1] = header::new_head(tier, glue);
-    words[used + 2] = n as u32;
-    buffers::copy(words, used + 3, lits, 0, n);
+    words[used + 2] = lits.len() as u32;
+    words[start..start + lits.len()].copy_from_slice(lits);
 }
 
 // "A clause's literals are handed back as the part of the word buffer that holds them." The clause ends within the buffer, as every listed one does.
@@ -24,6 +24,6 @@ pub fn lits(words: &[u32], offset: usize) -> &[u32]
     ensures { result.now ≡ lits_at words.now offset }
 {
     let start = offset + 3;
-    let end = start + buffers::word(words, offset + 2);
+    let end = start + words[offset + 2] as usize;
     &words[start..end]
 }

@@ -1,6 +1,6 @@
 -- Levels met so far, marked in an array: one turn at a time. Assumes nothing.
 use mathlib.Core.Path.{◌≡◌, refl, sym, ap, ap₂, ◌∙◌, subst}
-use mathlib.Core.Bool.{Bool, true, false, not, ◌&&◌}
+use mathlib.Core.Bool.{Bool, false, not, ◌&&◌}
 use mathlib.Core.List.{List}
 use Prim.Native.Nat.{ℕ, zero, suc, ◌+◌, ◌-◌, ◌≤◌, ◌<◌}
 use native.Mathlib.Decide.{ℕ_discrete}
@@ -9,11 +9,12 @@ use native.Mathlib.Omega.{arith}
 use lib.Dec.{eqb}
 use lib.ListN.{length, set, replicate, length-set, length-replicate, get_or-replicate}
 use lib.Seq.{get_or-set_same, get_or-set_other}
-use borrow.Author.Tests.{eq-eqb, ne_eqb, le-leb, lt-leb}
+use borrow.Author.Tests.{eq-eqb, ne_eqb}
 use Rattle.laws.specs.Fold.{all_below, one, count_below}
 use Rattle.laws.specs.Lists.{at}
 use Rattle.laws.proofs.Folds.{and_fails_right, count_more}
-use Rattle.calls.specs.Bumping.{level_of, level_apart, level_new, glue_for, tier_for, learned_glue}
+use Rattle.laws.proofs.Tests.{and_true}
+use Rattle.calls.specs.Bumping.{level_of, level_apart, level_new, glue_for}
 use Rattle.calls.specs.Outcome.{assessed}
 use Rattle.kinds.specs.Header.{saturated}
 
@@ -41,10 +42,6 @@ module _ (levels lits : List ℕ) where
   pub new_level : (i : ℕ) → level_new levels lits i ≡ all_below (other (level_of levels lits i)) i
   unfolding level_new level_apart other
   new_level i = refl
-
-  and_true : (a : Bool) → a && true ≡ a
-  and_true true = refl
-  and_true false = refl
 
   -- another level's mark is as it was
   beside : (x i : ℕ) → (level_of levels lits i ≡ x → ⊥) → all_below (other x) (i + 1) ≡ all_below (other x) i
@@ -100,23 +97,3 @@ module _ (levels lits : List ℕ) where
   glue_positive h =
       let e : length lits ≡ suc (length lits - 1) = omega arith in
       subst (λ (n : ℕ). 0 < count_below (level_new levels lits) n) (sym e) (count_first (length lits - 1))
-
--- ---- "tier Core to 2, Mid to 6, Local above"
-
-pub core : (g : ℕ) → g ≤ 2 → 1 ≡ tier_for g
-unfolding tier_for
-core g h = rw (le-leb g 2 h)
-
-pub mid : (g : ℕ) → 2 < g → g ≤ 6 → 2 ≡ tier_for g
-unfolding tier_for
-mid g h k = rw (lt-leb g 2 h, le-leb g 6 k)
-
-pub local : (g : ℕ) → 2 < g → 6 < g → 3 ≡ tier_for g
-unfolding tier_for
-local g h k = rw (lt-leb g 2 h, lt-leb g 6 k)
-
--- "A learned clause gets glue minus 1"
-pub assessed_as : (levels lits : List ℕ) (g t b : ℕ) → g ≡ glue_for levels lits → t ≡ tier_for (g - 1) → b ≡ saturated (g - 1)
-    → assessed t b ≡ assessed (tier_for (learned_glue levels lits)) (saturated (learned_glue levels lits))
-unfolding learned_glue
-assessed_as levels lits g t b e f h = ap₂ assessed (f ∙ ap (λ (x : ℕ). tier_for (x - 1)) e) (h ∙ ap (λ (x : ℕ). saturated (x - 1)) e)

@@ -5,8 +5,6 @@ ghost use Rattle.std.specs.Prelude.{◌≡◌, ◌<◌, length};
 ghost use Rattle.kinds.specs.Header.{saturated};
 ghost use Rattle.kinds.specs.Numbers.{tier_number};
 ghost use Rattle.calls.specs.Bumping.{level_new, glue_for, tier_for, learned_glue};
-ghost use Rattle.calls.specs.Outcome.{assessed};
-ghost use Rattle.calls.specs.Answers.{assessed_number, assessed_answer};
 ghost use Rattle.assess.specs.Levelled.{Levelled};
 
 use kinds::{Assessed, Tier};
@@ -21,13 +19,11 @@ fn level_new(levels: &[u32], lits: &[u32], j: usize) -> bool
 {
     let own = (lits[j] / 2) as usize;
     let level = levels[own];
-    let mut k = 0usize;
-    while k < j {
-        let var = (lits[k] / 2) as usize;
+    for lit in &lits[..j] {
+        let var = (*lit / 2) as usize;
         if levels[var] == level {
             return false;
         }
-        k += 1;
     }
     true
 }
@@ -37,12 +33,9 @@ fn compute_glue_short(levels: &[u32], lits: &[u32]) -> usize
     requires { Levelled levels.now lits.now }
     ensures { result ≡ glue_for levels.now lits.now }
 {
-    let mut glue = 0usize;
-    let mut i = 0usize;
-    while i < lits.len() {
-        let new = level_new(levels, lits, i);
-        i += 1;
-        if new {
+    let mut glue = 0;
+    for j in 0..lits.len() {
+        if level_new(levels, lits, j) {
             glue += 1;
         }
     }
@@ -55,12 +48,9 @@ fn compute_glue_long(levels: &[u32], lits: &[u32]) -> usize
     ensures { result ≡ glue_for levels.now lits.now }
 {
     let mut seen = [0u8; 65537];
-    let mut glue = 0usize;
-    let mut i = 0usize;
-    while i < lits.len() {
-        let var = (lits[i] / 2) as usize;
-        let level = levels[var] as usize;
-        i += 1;
+    let mut glue = 0;
+    for lit in lits {
+        let level = levels[(*lit / 2) as usize] as usize;
         if seen[level] == 0 {
             seen[level] = 1;
             glue += 1;
@@ -75,32 +65,32 @@ pub fn compute_glue(levels: &[u32], lits: &[u32]) -> usize
     ensures { result ≡ glue_for levels.now lits.now }
 {
     if lits.len() <= SHORT {
-        return compute_glue_short(levels, lits);
+        compute_glue_short(levels, lits)
+    } else {
+        compute_glue_long(levels, lits)
     }
-    compute_glue_long(levels, lits)
 }
 
 // "tier Core to 2, Mid to 6, Local above, judged before saturation"
+#[tactic(auto, unfolding(calls::specs::Bumping::tier_for))]
 pub fn select_tier(glue: usize) -> Tier
     ensures { tier_number result ≡ tier_for glue }
 {
-    if glue <= 2 {
-        return Tier::Core;
+    match glue {
+        0..=2 => Tier::Core,
+        3..=6 => Tier::Mid,
+        _ => Tier::Local,
     }
-    if glue <= 6 {
-        return Tier::Mid;
-    }
-    Tier::Local
 }
 
 // "A learned clause gets glue minus 1": it is still in conflict here. Its literals are 1 at least (4).
 pub fn assess_learned_clause(levels: &[u32], lits: &[u32]) -> Assessed
     requires { Levelled levels.now lits.now × (0 < length lits.now) }
-    ensures { (assessed_number result ≡ 0)
-        × (assessed_answer result ≡ assessed (tier_for (learned_glue levels.now lits.now)) (saturated (learned_glue levels.now lits.now))) }
+    ensures { (tier_number result.tier ≡ tier_for (learned_glue levels.now lits.now)) × (result.glue ≡ saturated (learned_glue levels.now lits.now)) }
 {
     let glue = compute_glue(levels, lits) - 1;
-    let tier = select_tier(glue);
-    let bits = header::saturate(glue);
-    Assessed::As(tier, bits)
+    Assessed {
+        tier: select_tier(glue),
+        glue: header::saturate(glue),
+    }
 }

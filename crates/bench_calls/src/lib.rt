@@ -1,4 +1,5 @@
 // What the benchmark calls: the judging alone, the steps below it, what a step is refused for, and the whole judged calls, exported for a host. For measuring only: a function that has a `requires` trusts its caller to have judged before.
+// Each buffer is a parameter of its own, as a caller in C passes it; so are a tier's number, a literal's code and an answer.
 #![tactic(auto)]
 
 ghost use Rattle.std.specs.Prelude.{◌≡◌, [], ℕ, ◌≤◌};
@@ -6,7 +7,15 @@ ghost use Rattle.kinds.specs.Lent.{lent, lent_five, levels_only, host_of, no_hos
 ghost use Rattle.calls.specs.Call.{add_clause, bump, reduce_locals, collect, unit_simplify, five_lists, five_lists_levels, five_lists_host, five_lists_record_host, everything};
 ghost use Rattle.calls.specs.Outcome.{judged, own_number};
 
-use kinds::{ClauseRef, State};
+use kinds::{ClauseRef, HostSide, Refusal, State};
+
+// 0, or the table's number.
+fn number_of(answer: Result<(), Refusal>) -> usize {
+    match answer {
+        Ok(()) => 0,
+        Err(refusal) => u32::from(refusal) as usize,
+    }
+}
 
 // ---- the judging
 
@@ -21,7 +30,7 @@ pub extern "C" fn bench_judge_five(
     mid: &[u32],
     local: &[u32],
 ) -> usize {
-    judge::judge_five(s, words, clauses, irred, core, mid, local)
+    number_of(judge::judge_five(s, words, clauses, irred, core, mid, local))
 }
 
 // The judging of bumping.
@@ -36,7 +45,7 @@ pub extern "C" fn bench_judge_five_levels(
     local: &[u32],
     levels: &[u32],
 ) -> usize {
-    judge::judge_five_levels(s, words, clauses, irred, core, mid, local, levels)
+    number_of(judge::judge_five_levels(s, words, clauses, irred, core, mid, local, levels))
 }
 
 // The judging of collecting.
@@ -57,10 +66,24 @@ pub extern "C" fn bench_judge_five_host(
     assigned: usize,
     level: usize,
 ) -> usize {
-    judge::judge_five_host(
-        s, words, clauses, irred, core, mid, local, values, kinds, reasons, levels, trail,
-        assigned, level,
-    )
+    number_of(judge::judge_five_host(
+        s,
+        words,
+        clauses,
+        irred,
+        core,
+        mid,
+        local,
+        HostSide {
+            values,
+            kinds,
+            reasons,
+            levels,
+            trail,
+            assigned,
+            level,
+        },
+    ))
 }
 
 // The judging of reducing locals.
@@ -82,10 +105,25 @@ pub extern "C" fn bench_judge_five_record_host(
     assigned: usize,
     level: usize,
 ) -> usize {
-    judge::judge_five_record_host(
-        s, words, clauses, irred, core, mid, local, rec, values, kinds, reasons, levels, trail,
-        assigned, level,
-    )
+    number_of(judge::judge_five_record_host(
+        s,
+        words,
+        clauses,
+        irred,
+        core,
+        mid,
+        local,
+        rec,
+        HostSide {
+            values,
+            kinds,
+            reasons,
+            levels,
+            trail,
+            assigned,
+            level,
+        },
+    ))
 }
 
 // The judging of `unit_simplify`: of everything.
@@ -109,10 +147,27 @@ pub extern "C" fn bench_judge_all(
     assigned: usize,
     level: usize,
 ) -> usize {
-    judge::judge_all(
-        s, words, clauses, irred, core, mid, local, rows, counts, rec, values, kinds, reasons,
-        levels, trail, assigned, level,
-    )
+    number_of(judge::judge_all(
+        s,
+        words,
+        clauses,
+        irred,
+        core,
+        mid,
+        local,
+        rows,
+        counts,
+        rec,
+        HostSide {
+            values,
+            kinds,
+            reasons,
+            levels,
+            trail,
+            assigned,
+            level,
+        },
+    ))
 }
 
 // ---- adding a long clause
@@ -131,8 +186,11 @@ pub extern "C" fn bench_add_clause(
     glue: usize,
     lits: &[u32],
 ) -> State {
-    let reply = db::add_clause(s, words, clauses, irred, core, mid, local, tier, glue, lits);
-    reply.state
+    let answer = db::add_clause(s, words, clauses, irred, core, mid, local, tier, glue, lits);
+    match answer {
+        Ok(added) => added.state,
+        Err(_) => s,
+    }
 }
 
 // The step. The caller has judged, and has found no refusal.
@@ -181,7 +239,7 @@ pub extern "C" fn bench_bump_clause(
     levels: &[u32],
     cref: u32,
 ) -> State {
-    let reply = activity_calls::bump_clause(
+    let answer = activity_calls::bump_clause(
         s,
         words,
         clauses,
@@ -192,7 +250,10 @@ pub extern "C" fn bench_bump_clause(
         levels,
         ClauseRef(cref),
     );
-    reply.state
+    match answer {
+        Ok(state) => state,
+        Err(_) => s,
+    }
 }
 
 // What a bump is refused for. The caller has judged.
@@ -210,7 +271,7 @@ pub extern "C" fn bench_refuse_bump(
 ) -> usize
     requires { judged five_lists_levels (lent_five s words.now clauses.now irred.now core.now mid.now local.now (levels_only levels.now)) ≡ 0 }
 {
-    activity_steps::refuse_bump(
+    number_of(activity_steps::refuse_bump(
         s,
         words,
         clauses,
@@ -220,7 +281,7 @@ pub extern "C" fn bench_refuse_bump(
         local,
         levels,
         ClauseRef(cref),
-    )
+    ))
 }
 
 // The step. The caller has judged, and has found no refusal.
@@ -273,11 +334,29 @@ pub extern "C" fn bench_reduce_locals(
     assigned: usize,
     level: usize,
 ) -> State {
-    let reply = reduce_calls::reduce_locals(
-        s, words, clauses, irred, core, mid, local, rec, values, kinds, reasons, levels, trail,
-        assigned, level,
+    let answer = reduce_calls::reduce_locals(
+        s,
+        words,
+        clauses,
+        irred,
+        core,
+        mid,
+        local,
+        rec,
+        HostSide {
+            values,
+            kinds,
+            reasons,
+            levels,
+            trail,
+            assigned,
+            level,
+        },
     );
-    reply.state
+    match answer {
+        Ok(changed) => changed.state,
+        Err(_) => s,
+    }
 }
 
 // What reducing locals is refused for. The caller has judged.
@@ -301,10 +380,25 @@ pub extern "C" fn bench_refuse_reduce_locals(
 ) -> usize
     requires { judged five_lists_record_host (lent s words.old clauses.now irred.now core.now mid.now local.now [] [] rec.now (host_of values.now kinds.now reasons.now levels.now trail.now assigned level)) ≡ 0 }
 {
-    reduce_refusals::refuse_reduce_locals(
-        s, words, clauses, irred, core, mid, local, rec, values, kinds, reasons, levels, trail,
-        assigned, level,
-    )
+    number_of(reduce_refusals::refuse_reduce_locals(
+        s,
+        words,
+        clauses,
+        irred,
+        core,
+        mid,
+        local,
+        rec,
+        HostSide {
+            values,
+            kinds,
+            reasons,
+            levels,
+            trail,
+            assigned,
+            level,
+        },
+    ))
 }
 
 // The step. The caller has judged, and has found no refusal.
@@ -330,8 +424,23 @@ pub extern "C" fn bench_locals(
     requires level_value_2 { own_number reduce_locals (lent s words.old clauses.old irred.old core.old mid.old local.old [] [] rec.old (host_of values.now kinds.now reasons.now levels.now trail.now assigned level)) ≡ 0 }
 {
     let finished = reduce_steps::locals(
-        s, words, clauses, irred, core, mid, local, rec, values, kinds, reasons, levels, trail,
-        assigned, level,
+        s,
+        words,
+        clauses,
+        irred,
+        core,
+        mid,
+        local,
+        rec,
+        HostSide {
+            values,
+            kinds,
+            reasons,
+            levels,
+            trail,
+            assigned,
+            level,
+        },
     );
     finished.state
 }
@@ -356,11 +465,14 @@ pub extern "C" fn bench_collect_garbage(
     assigned: usize,
     level: usize,
 ) -> State {
-    let reply = gc::collect_garbage(
+    let answer = gc::collect_garbage(
         s, words, clauses, irred, core, mid, local, values, kinds, reasons, levels, trail,
         assigned, level,
     );
-    reply.state
+    match answer {
+        Ok(changed) => changed.state,
+        Err(_) => s,
+    }
 }
 
 // The step; a collection is refused for nothing but 1 to 3. The caller has judged, and has found no refusal.
@@ -414,11 +526,31 @@ pub extern "C" fn bench_unit_simplify(
     assigned: usize,
     level: usize,
 ) -> State {
-    let reply = unit_simplify::unit_simplify(
-        s, words, clauses, irred, core, mid, local, rows, counts, rec, values, kinds, reasons,
-        levels, trail, assigned, level,
+    let answer = unit_simplify::unit_simplify(
+        s,
+        words,
+        clauses,
+        irred,
+        core,
+        mid,
+        local,
+        rows,
+        counts,
+        rec,
+        HostSide {
+            values,
+            kinds,
+            reasons,
+            levels,
+            trail,
+            assigned,
+            level,
+        },
     );
-    reply.state
+    match answer {
+        Ok(changed) => changed.state,
+        Err(_) => s,
+    }
 }
 
 // What simplifying is refused for. The caller has judged.
@@ -444,10 +576,27 @@ pub extern "C" fn bench_refuse_unit_simplify(
 ) -> usize
     requires { judged everything (lent s words.now clauses.now irred.now core.now mid.now local.now rows.now counts.now rec.now (host_of values.now kinds.now reasons.now levels.now trail.now assigned level)) ≡ 0 }
 {
-    simplify_steps::refuse_unit_simplify(
-        s, words, clauses, irred, core, mid, local, rows, counts, rec, values, kinds, reasons,
-        levels, trail, assigned, level,
-    )
+    number_of(simplify_steps::refuse_unit_simplify(
+        s,
+        words,
+        clauses,
+        irred,
+        core,
+        mid,
+        local,
+        rows,
+        counts,
+        rec,
+        HostSide {
+            values,
+            kinds,
+            reasons,
+            levels,
+            trail,
+            assigned,
+            level,
+        },
+    ))
 }
 
 // The step. The caller has judged, and has found no refusal.
@@ -475,7 +624,24 @@ pub extern "C" fn bench_simplify(
     requires level_value_2 { own_number unit_simplify (lent s words.old clauses.old irred.old core.old mid.old local.old rows.old counts.old rec.old (host_of values.now kinds.now reasons.now levels.now trail.now assigned level)) ≡ 0 }
 {
     simplify_steps::simplify(
-        s, words, clauses, irred, core, mid, local, rows, counts, rec, values, kinds, reasons,
-        levels, trail, assigned, level,
+        s,
+        words,
+        clauses,
+        irred,
+        core,
+        mid,
+        local,
+        rows,
+        counts,
+        rec,
+        HostSide {
+            values,
+            kinds,
+            reasons,
+            levels,
+            trail,
+            assigned,
+            level,
+        },
     )
 }

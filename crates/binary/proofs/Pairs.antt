@@ -1,16 +1,18 @@
 -- Two entries in rows: that they fit, and what the rows then hold. Assumes nothing.
-use mathlib.Core.Path.{◌≡◌, refl, sym, ap, ap₂, ◌∙◌, subst}
+use mathlib.Core.Path.{◌≡◌, sym, ap, ap₂, ◌∙◌, subst}
 use mathlib.Core.List.{List, [], ◌∷◌}
-use Prim.Native.Nat.{ℕ, zero, suc, ◌+◌, ◌*◌, ◌≤◌, ◌<◌}
+use Prim.Native.Nat.{ℕ, suc, ◌+◌, ◌*◌, ◌≤◌, ◌<◌}
 use native.Mathlib.Omega.{arith}
 use native.Mathlib.Nat.{suc-mul, mul-le-mul_right}
-use native.Mathlib.Decide.{ℕ_discrete}
+use mathlib.Core.Logic.{inl, inr}
+use Rattle.std.proofs.lemmas.Bool.{cases_eq}
+use Rattle.std.proofs.lemmas.Grind.{get_or-set_at}
 use lib.ListN.{length, set, length-set}
 use lib.Seq.{get_or-set_same, get_or-set_other}
 use Rattle.laws.specs.Lists.{at, list_at, more, push, lengths}
 use Rattle.kinds.specs.Layout.{rows_of, fill_rows}
 use Rattle.kinds.proofs.Layouts.{Sized, AllFit, sized_of, all_fit_of, rows_fill}
-use Rattle.kinds.proofs.RowLayout.{lengths_rows, length_lengths, at_lengths, lengths_push, rows_push, rows_again, growing_push, length_rows}
+use Rattle.kinds.proofs.RowLayout.{lengths_rows, at_lengths, lengths_push, rows_push, rows_again, growing_push, length_rows}
 
 -- a place in a row lies in the buffer
 pub row_fits : (c n m k r : ℕ) → c < n → k ≤ m → n * m ≤ r → c * m + k ≤ r
@@ -22,11 +24,11 @@ more_same : (l : List ℕ) (k : ℕ) → k < length l → at (more k l) k ≡ at
 more_same l k h = get_or-set_same l k (at l k + 1) 0 h
 
 more_le : (l : List ℕ) (k j : ℕ) → j < length l → at l j ≤ at (more k l) j
-more_le l k j h = go (ℕ_discrete j k)
-  where
-    go : Dec (j ≡ k) → at l j ≤ at (more k l) j
-    go (yes e) = let q : at (more k l) j ≡ at l j + 1 = subst (λ (z : ℕ). at (more z l) j ≡ at l j + 1) e (more_same l j h) in omega arith
-    go (no n) = let q : at (more k l) j ≡ at l j = get_or-set_other l k j (at l k + 1) 0 n in omega arith
+more_le l k j h =
+    elim (cases_eq j k) [
+      | inl e ↦ omega (arith, get_or-set_at l k j (at l k + 1) 0 e (omega arith), ap (at l) e)
+      | inr n ↦ omega (arith, get_or-set_other l k j (at l k + 1) 0 n)
+    ]
 
 module _ (rows counts : List ℕ) (m x y : ℕ) (hx : x < length counts) (hy : y < length counts) (whole : length counts * m ≤ length rows)
     (fits : (c : ℕ) → c < length counts → at (more y (more x counts)) c ≤ m) where

@@ -16,9 +16,8 @@ pub fn push(rows: &mut [u32], room: usize, counts: &mut [u32], code: u32, x: u32
     ensures { (rows.new ≡ set rows.old (code * room + at counts.old code) x) × (counts.new ≡ more code counts.old) }
 {
     let c = code as usize;
-    let n = counts[c];
-    rows[c * room + n as usize] = x;
-    counts[c] = n + 1;
+    rows[c * room + counts[c] as usize] = x;
+    counts[c] += 1;
 }
 
 // "Adding {a, b} appends b to the row of not-a, then a to the row of not-b." The finished rows fit.
@@ -41,6 +40,5 @@ pub fn implied<'a>(rows: &'a [u32], room: usize, counts: &[u32], lit: Lit) -> &'
 {
     let code = lit.0 as usize;
     let start = code * room;
-    let end = start + buffers::word(counts, code);
-    &rows[start..end]
+    &rows[start..start + counts[code] as usize]
 }

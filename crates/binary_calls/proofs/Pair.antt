@@ -14,12 +14,10 @@ use Rattle.laws.proofs.Folds.{all_of, all_fails, and_both, and_fails_left, and_f
 use Rattle.laws.proofs.Pushes.{more_here, more_other, length_more}
 use Rattle.laws.proofs.Tests.{and_true}
 use Rattle.kinds.specs.Clauses.{neg, var_of}
-use Rattle.kinds.specs.Numbers.{refusal_number}
 use Rattle.kinds.specs.Setters.{with_binary_count}
 use Rattle.kinds.specs.Lent.{Lent, lent_rows, room_of}
 use Rattle.kinds.specs.Layout.{rows_of, fill_rows, view, side, lay, lay_state, lay_host, fit, fit_row}
 use Rattle.kinds.specs.declared.State.{State}
-use Rattle.kinds.specs.declared.Refusal.{Refusal}
 use Rattle.kinds.proofs.RowLayout.{at_lengths, lengths_push, lengths_rows}
 use Rattle.calls.specs.Call.{add_binary, parts, only_rows}
 use Rattle.calls.specs.StorePasses.{lits_ok}
@@ -31,7 +29,6 @@ use Rattle.calls.proofs.Laws.{has_room_lem as room-given}
 use Rattle.calls.proofs.Judged.{row_fits}
 use Rattle.calls.proofs.Readings.{Lits, lits_read}
 use Rattle.calls.proofs.Given.{first_not, clause_right}
-use Rattle.replies.proofs.Ways.{own_way, step_way, refusal_told}
 use Rattle.binary_calls.proofs.Rows.{RowsReady, rows_ready}
 
 -- ---- literals
@@ -212,20 +209,3 @@ module _ (s : State) (rows counts ls : List ℕ) where
       → lent_rows (with_binary_count (s.binary + 1) s) rows₁ counts₁ ≡ lay only_rows k (added_binary ls (view k))
   unfolding lay lay_state lay_host view side added_pair
   pair_laid rows₁ counts₁ a b = ap₂ (λ (x y : List ℕ). lent_rows (with_binary_count (s.binary + 1) s) x y) a b
-
-  -- ---- the whole call
-
-  pub lends : parts (add_binary ls) ≡ only_rows
-  unfolding parts
-  lends = refl
-
-  module _ (n : ℕ) (e : n ≡ judged only_rows k) where
-    pub add_refused : n ≡ 0 → (i : ℕ) → i ≡ own_number (add_binary ls) k → (i ≡ 0 → ⊥) → (r : Refusal) → refusal_number r ≡ i → refused (refusal_number r) k ≡ done (add_binary ls) k
-    add_refused z i o h r q = refusal_told k r i q (own_way (add_binary ls) only_rows lends k (sym e ∙ z) i o h)
-
-    told : accepted nothing (lay only_rows k (added_binary ls (view k))) ≡ accepted (answer (add_binary ls) (view k)) (lay only_rows k (step (add_binary ls) (view k)))
-    unfolding answer step
-    told = refl
-
-    pub added : n ≡ 0 → (i : ℕ) → i ≡ own_number (add_binary ls) k → i ≡ 0 → (x : Lent) → x ≡ lay only_rows k (added_binary ls (view k)) → accepted nothing x ≡ done (add_binary ls) k
-    added z i o h x q = ap (accepted nothing) q ∙ told ∙ sym (step_way (add_binary ls) only_rows lends k (sym e ∙ z) (sym o ∙ h))

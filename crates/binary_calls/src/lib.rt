@@ -8,9 +8,9 @@ ghost use Rattle.kinds.specs.Layout.{view, lay};
 ghost use Rattle.calls.specs.Call.{add_binary, implied, only_rows};
 ghost use Rattle.calls.specs.Adding.{added_binary};
 ghost use Rattle.calls.specs.Outcome.{judged, own_number, done, nothing, part_of};
-ghost use Rattle.calls.specs.Answers.{plain_number};
+ghost use Rattle.calls.specs.Answers.{number_of, state_after};
 
-use kinds::{Lit, Plain, PlainReply, Refusal, State};
+use kinds::{Lit, Refusal, State};
 
 // "each row's room being its length over 2V, rounded down". V is in range (1).
 fn row_room(vars: usize, rows: &[u32]) -> usize
@@ -22,35 +22,30 @@ fn row_room(vars: usize, rows: &[u32]) -> usize
 
 // ---- implied literals
 
+// Whether they are returned; else the number beside an empty part.
+pub fn implied_number(s: State, rows: &[u32], counts: &[u32], lit: Lit) -> Result<(), Refusal>
+    ensures { number_of result ≡ (done (implied lit.0) (lent_rows s rows.now counts.now)).number }
+{
+    judge::judge_rows(s, rows, counts)?;
+    if 2 * s.vars <= lit.0 as usize {
+        Err(Refusal::Clause)
+    } else {
+        Ok(())
+    }
+}
+
 // "The implied literals of a literal are returned as that row's filled part."
 pub fn implied<'a>(s: State, rows: &'a [u32], counts: &[u32], lit: Lit) -> &'a [u32]
     ensures { result.now ≡ part_of (done (implied lit.0) (lent_rows s rows.now counts.now)).answer }
 {
-    let judging = judge::judge_rows(s, rows, counts);
-    if judging != 0 {
+    if judge::judge_rows(s, rows, counts).is_err() {
         return &rows[0..0];
     }
-    let vars = s.vars;
-    if 2 * vars <= lit.0 as usize {
+    if 2 * s.vars <= lit.0 as usize {
         return &rows[0..0];
     }
-    let room = row_room(vars, rows);
+    let room = row_room(s.vars, rows);
     binary::implied(rows, room, counts, lit)
-}
-
-// The number beside it.
-pub fn implied_number(s: State, rows: &[u32], counts: &[u32], lit: Lit) -> Plain
-    ensures { plain_number result ≡ (done (implied lit.0) (lent_rows s rows.now counts.now)).number }
-{
-    let judging = judge::judge_rows(s, rows, counts);
-    if judging != 0 {
-        return Plain::Refused(kinds::refusal_of(judging));
-    }
-    let vars = s.vars;
-    if 2 * vars <= lit.0 as usize {
-        return Plain::Refused(Refusal::Clause);
-    }
-    Plain::Done
 }
 
 // ---- adding a binary clause
@@ -64,27 +59,31 @@ fn row_full(counts: &[u32], room: usize, code: u32) -> bool
 }
 
 // 4 and 11.
-fn refuse_add_binary_clause(s: State, rows: &[u32], counts: &[u32], lits: &[u32]) -> usize
+fn refuse_add_binary_clause(
+    s: State,
+    rows: &[u32],
+    counts: &[u32],
+    lits: &[u32],
+) -> Result<(), Refusal>
     requires { judged only_rows (lent_rows s rows.now counts.now) ≡ 0 }
-    ensures { (result ≡ own_number (add_binary lits.now) (lent_rows s rows.now counts.now)) × (result ≤ 12) }
+    ensures { number_of result ≡ own_number (add_binary lits.now) (lent_rows s rows.now counts.now) }
 {
     if lits.len() != 2 {
-        return 4;
+        return Err(Refusal::Clause);
     }
-    let vars = s.vars;
-    if !judge_words::lits_pass(vars, lits) {
-        return 4;
+    if !judge_words::lits_pass(s.vars, lits) {
+        return Err(Refusal::Clause);
     }
-    let room = row_room(vars, rows);
+    let room = row_room(s.vars, rows);
     let not_a = Lit(lits[0]).negated().0;
     if row_full(counts, room, not_a) {
-        return 11;
+        return Err(Refusal::Room);
     }
     let not_b = Lit(lits[1]).negated().0;
     if row_full(counts, room, not_b) {
-        return 11;
+        return Err(Refusal::Room);
     }
-    0
+    Ok(())
 }
 
 // The two rows get one more entry each, and the binary count one more.
@@ -94,47 +93,25 @@ fn append_binary_clause(s: State, rows: &mut [u32], counts: &mut [u32], lits: &[
     ensures { lent_rows result rows.new counts.new
         ≡ lay only_rows (lent_rows s rows.old counts.old) (added_binary lits.now (view (lent_rows s rows.old counts.old))) }
 {
-    let vars = s.vars;
-    let room = row_room(vars, rows);
+    let room = row_room(s.vars, rows);
     binary::add_binary_clause(rows, room, counts, Lit(lits[0]), Lit(lits[1]));
-    let tiers = s.tiers;
-    let tier_counts = s.counts;
-    let activity = s.activity;
     State {
-        vars: vars,
-        words: s.words,
-        clauses: s.clauses,
-        tiers: tiers,
-        recorded: s.recorded,
-        counts: tier_counts,
-        garbage: s.garbage,
         binary: s.binary + 1,
-        activity: activity,
+        ..s
     }
 }
 
 // "Adding {a, b} appends b to the row of not-a, then a to the row of not-b."
-pub fn add_binary_clause(s: State, rows: &mut [u32], counts: &mut [u32], lits: &[u32]) -> PlainReply
-    ensures { record { number = plain_number result.answer; answer = nothing; then = lent_rows result.state rows.new counts.new }
+pub fn add_binary_clause(
+    s: State,
+    rows: &mut [u32],
+    counts: &mut [u32],
+    lits: &[u32],
+) -> Result<State, Refusal>
+    ensures { record { number = number_of result; answer = nothing; then = lent_rows (state_after s result) rows.new counts.new }
         ≡ done (add_binary lits.now) (lent_rows s rows.old counts.old) }
 {
-    let judging = judge::judge_rows(s, rows, counts);
-    if judging != 0 {
-        return PlainReply {
-            answer: Plain::Refused(kinds::refusal_of(judging)),
-            state: s,
-        };
-    }
-    let refusal = refuse_add_binary_clause(s, rows, counts, lits);
-    if refusal != 0 {
-        return PlainReply {
-            answer: Plain::Refused(kinds::refusal_of(refusal)),
-            state: s,
-        };
-    }
-    let state = append_binary_clause(s, rows, counts, lits);
-    PlainReply {
-        answer: Plain::Done,
-        state: state,
-    }
+    judge::judge_rows(s, rows, counts)?;
+    refuse_add_binary_clause(s, rows, counts, lits)?;
+    Ok(append_binary_clause(s, rows, counts, lits))
 }

@@ -1,18 +1,21 @@
 -- All rows, one after the other: what is done, with what remains, gives the whole. Assumes nothing.
-use mathlib.Core.Path.{◌≡◌, refl, sym, ap, ap₂, ◌∙◌, subst}
+use mathlib.Core.Path.{◌≡◌, refl, sym, ap, ap₂, ◌∙◌}
 use mathlib.Core.List.{List, [], ◌∷◌, ◌++◌, append_assoc, append-nil}
-use Prim.Native.Nat.{ℕ, zero, suc, ◌+◌, ◌-◌, ◌*◌, ◌≤◌, ◌<◌}
+use Prim.Native.Nat.{ℕ, suc, ◌+◌, ◌-◌, ◌*◌, ◌^◌, ◌≤◌, ◌<◌}
 use native.Mathlib.Omega.{arith}
 use native.Mathlib.Numerals.{add-one}
-use native.Mathlib.Nat.{add-zero, suc-mul, zero-mul, zero-add, mul-le-mul_right}
-use lib.ListN.{length, set, take, drop, length-set, length-append, length-take, length-drop, take-append-drop, drop_of_length-le}
+use native.Mathlib.Nat.{add-zero, suc-mul, mul-le-mul_right}
+use lib.ListN.{length, set, take, drop, length-set, length-append, length-drop, take-append-drop, drop_of_length-le}
 use lib.Seq.{sets, length-sets, drop-cons, take-suc-set, drop-set-lt, drop-drop, get_or-drop, take-take, length-take-le, take-append_seam, take-length, take_all, take_at, drop_at}
-use Rattle.laws.specs.Lists.{at, lengths, joined, fill}
+use Rattle.std.proofs.lemmas.Grind.{drop_more_same}
+use Rattle.laws.specs.Lists.{at, list_at, lengths, joined, fill}
+use Rattle.laws.proofs.Parts.{same_next}
 use Rattle.laws.proofs.Fills.{length_fill}
 use Rattle.laws.proofs.Closing.{sets_append}
 use Rattle.kinds.specs.Clauses.{var_of}
 use Rattle.kinds.specs.Lines.{Line, line_words, flat}
 use Rattle.kinds.specs.Layout.{rows_of, fill_rows}
+use Rattle.kinds.proofs.RowLayout.{row_at}
 use Rattle.calls.specs.Simplifying.{row_cleaned, row_strikes, rows_cleaned, rows_strikes}
 use Rattle.binary_clean.specs.Ready.{RowsReady}
 use Rattle.binary_clean.proofs.OneRow.{cleaned_length, strikes_length}
@@ -70,23 +73,16 @@ module _ (m : ℕ) (ns buf : List ℕ) (c : ℕ) (h : c < length ns) where
     unfolding lengths
     lengths_next = ap lengths cleaned_next
 
-from_start : (m : ℕ) (ns buf : List ℕ) → from m ns buf 0 ≡ rows_of m ns buf
-from_start m ns buf = ap (λ (k : ℕ). rows_of m ns (drop k buf)) (zero-mul m)
-
 from_end : (m : ℕ) (ns buf : List ℕ) (c : ℕ) → length ns ≤ c → from m ns buf c ≡ []
 unfolding rows_of
 from_end m ns buf c h = ap (λ (l : List ℕ). rows_of m l (drop (c * m) buf)) (drop_of_length-le ns {i = c} h)
 
-same_next : (l k : List ℕ) (i : ℕ) → drop i l ≡ drop i k → at l i ≡ at k i
-same_next l k i e = sym (front l) ∙ ap (λ (r : List ℕ). at r 0) e ∙ front k
-  where
-    front : (r : List ℕ) → at (drop i r) 0 ≡ at r i
-    front r = get_or-drop i r 0 0 ∙ ap (at r) (add-zero i)
+-- the part of the buffer that the row of the code c has its room in
+abbrev pub lent : ℕ → ℕ → List ℕ → List ℕ
+lent c m rows = take (c * m + m - c * m) (drop (c * m) rows)
 
 -- ---- what holds when the rows below c are done
-pub record Done (a : List ℕ) (m : ℕ) (ns buf rec₀ : List ℕ) (recorded c start entries used : ℕ) (rows counts rec : List ℕ) : Type 0 where
-  pub within : c ≤ length ns
-  pub start_is : start ≡ c * m
+pub record Done (a : List ℕ) (m : ℕ) (ns buf rec₀ : List ℕ) (recorded₀ c entries recorded : ℕ) (rows counts rec : List ℕ) : Type 0 where
   pub rows_size : length rows ≡ length buf
   pub counts_size : length counts ≡ length ns
   pub rec_size : length rec ≡ length rec₀
@@ -94,33 +90,13 @@ pub record Done (a : List ℕ) (m : ℕ) (ns buf rec₀ : List ℕ) (recorded c 
   pub counts_ahead : drop c counts ≡ drop c ns
   pub rows_is : take (c * m) rows ++ fill_rows m (drop c ns) (rows_cleaned a c (from m ns buf c)) (drop (c * m) buf) ≡ fill_rows m ns (rows_cleaned a 0 (rows_of m ns buf)) buf
   pub counts_is : take c counts ++ lengths (rows_cleaned a c (from m ns buf c)) ≡ lengths (rows_cleaned a 0 (rows_of m ns buf))
-  pub told : sets rec used (flat (rows_strikes a c (from m ns buf c))) ≡ sets rec₀ recorded (flat (rows_strikes a 0 (rows_of m ns buf)))
-  pub end : used + length (flat (rows_strikes a c (from m ns buf c))) ≡ recorded + length (flat (rows_strikes a 0 (rows_of m ns buf)))
+  pub told : sets rec recorded (flat (rows_strikes a c (from m ns buf c))) ≡ sets rec₀ recorded₀ (flat (rows_strikes a 0 (rows_of m ns buf)))
+  pub end : recorded + length (flat (rows_strikes a c (from m ns buf c))) ≡ recorded₀ + length (flat (rows_strikes a 0 (rows_of m ns buf)))
   pub entries_is : entries + length (joined (rows_cleaned a c (from m ns buf c))) ≡ length (joined (rows_cleaned a 0 (rows_of m ns buf)))
   pub few : entries ≤ c * m
 
-pub done_start : (a : List ℕ) (m : ℕ) (ns buf rec : List ℕ) (recorded : ℕ) → Done a m ns buf rec recorded 0 0 0 recorded buf ns rec
-done_start a m ns buf rec recorded =
-    let f = from_start m ns buf in
-    let z = zero-mul m in
-    record {
-      within = omega arith;
-      start_is = sym z;
-      rows_size = refl;
-      counts_size = refl;
-      rec_size = refl;
-      rows_ahead = refl;
-      counts_ahead = refl;
-      rows_is = rw (f, z);
-      counts_is = ap (λ (r : List (List ℕ)). lengths (rows_cleaned a 0 r)) f;
-      told = ap (λ (r : List (List ℕ)). sets rec recorded (flat (rows_strikes a 0 r))) f;
-      end = ap (λ (r : List (List ℕ)). recorded + length (flat (rows_strikes a 0 r))) f;
-      entries_is = ap (λ (r : List (List ℕ)). 0 + length (joined (rows_cleaned a 0 r))) f ∙ zero-add _;
-      few = omega arith;
-    }
-
-module _ {a : List ℕ} {m : ℕ} {ns buf rec₀ : List ℕ} {recorded c start entries used : ℕ} {rows counts rec : List ℕ}
-    (D : Done a m ns buf rec₀ recorded c start entries used rows counts rec) (R : RowsReady m ns buf a) (h : c < length ns) where
+module _ {a : List ℕ} {m : ℕ} {ns buf rec₀ : List ℕ} {recorded₀ c entries recorded : ℕ} {rows counts rec : List ℕ}
+    (D : Done a m ns buf rec₀ recorded₀ c entries recorded rows counts rec) (R : RowsReady m ns buf a) (h : c < length ns) where
   pub count_here : at counts c ≡ at ns c
   count_here = same_next counts ns c D.counts_ahead
 
@@ -131,16 +107,13 @@ module _ {a : List ℕ} {m : ℕ} {ns buf rec₀ : List ℕ} {recorded c start e
   part_size = length-take-le m (drop (c * m) buf) (omega (arith, length-drop (c * m) buf, place_end))
 
   -- the part of the buffer that the row's room is
-  pub part_is : take (start + m - start) (drop start rows) ≡ take m (drop (c * m) buf)
+  pub part_is : lent c m rows ≡ take m (drop (c * m) buf)
   part_is =
-      let e : start + m - start ≡ m = omega arith in
-      ap₂ (λ (i j : ℕ). take i (drop j rows)) e D.start_is ∙ ap (take m) D.rows_ahead
+      let e : c * m + m - c * m ≡ m = omega arith in
+      rw (e, D.rows_ahead)
 
-  row_is : take (at ns c) (take m (drop (c * m) buf)) ≡ take (at ns c) (drop (c * m) buf)
-  row_is = take-take (at ns c) m (drop (c * m) buf) (R.counted c h)
-
-  pub row_read : {n : ℕ} {part : List ℕ} → n ≡ at counts c → part ≡ take m (drop (c * m) buf) → take n part ≡ take (at ns c) (drop (c * m) buf)
-  row_read e p = ap₂ take (e ∙ count_here) p ∙ row_is
+  taken : take (at counts c) (lent c m rows) ≡ take (at ns c) (drop (c * m) buf)
+  taken = rw (part_is, count_here) (take-take (at ns c) m (drop (c * m) buf) (R.counted c h))
 
   pub kept_small : length (row_cleaned a c (take (at ns c) (drop (c * m) buf))) ≤ m
   kept_small =
@@ -154,14 +127,14 @@ module _ {a : List ℕ} {m : ℕ} {ns buf rec₀ : List ℕ} {recorded c start e
       let e : at (take m (drop (c * m) buf)) p ≡ at buf (c * m + p) = lib.Seq.get_or-take m (drop (c * m) buf) p 0 (omega (arith, R.counted c h)) ∙ get_or-drop (c * m) buf p 0 in
       rw e (omega (arith, R.in_range c p h l, R.codes))
 
-  pub lines_room : recorded + length (flat (rows_strikes a 0 (rows_of m ns buf))) ≤ length rec₀ → used + length (flat (row_strikes a c (take (at ns c) (drop (c * m) buf)))) ≤ length rec
+  pub lines_room : recorded₀ + length (flat (rows_strikes a 0 (rows_of m ns buf))) ≤ length rec₀ → recorded + length (flat (row_strikes a c (take (at ns c) (drop (c * m) buf)))) ≤ length rec
   lines_room g = omega (arith, D.end, ap length (lines_next m ns buf c h a), length-append (flat (row_strikes a c (take (at ns c) (drop (c * m) buf)))) (flat (rows_strikes a (c + 1) (from m ns buf (c + 1)))), D.rec_size)
 
-  module _ {part' rows' counts' rec' : List ℕ} {kept used' : ℕ}
+  module _ {part' rows' counts' rec' : List ℕ} {kept recorded' : ℕ}
       (e₁ : part' ≡ fill (take m (drop (c * m) buf)) (at ns c) (row_cleaned a c (take (at ns c) (drop (c * m) buf))))
       (e₂ : rows' ≡ take (c * m) rows ++ (part' ++ drop (c * m + m) rows))
       (e₃ : counts' ≡ set counts c kept) (e₄ : kept ≡ length (row_cleaned a c (take (at ns c) (drop (c * m) buf))))
-      (e₅ : rec' ≡ sets rec used (flat (row_strikes a c (take (at ns c) (drop (c * m) buf))))) (e₆ : used' ≡ used + length (flat (row_strikes a c (take (at ns c) (drop (c * m) buf))))) where
+      (e₅ : rec' ≡ sets rec recorded (flat (row_strikes a c (take (at ns c) (drop (c * m) buf))))) (e₆ : recorded' ≡ recorded + length (flat (row_strikes a c (take (at ns c) (drop (c * m) buf))))) where
     part_length : length part' ≡ m
     part_length = ap length e₁ ∙ length_fill (take m (drop (c * m) buf)) (at ns c) _ (omega (arith, part_size, R.counted c h)) (omega (arith, part_size, kept_small)) ∙ part_size
 
@@ -173,7 +146,7 @@ module _ {a : List ℕ} {m : ℕ} {ns buf rec₀ : List ℕ} {recorded c start e
     rows_split : rows' ≡ (take (c * m) rows ++ part') ++ drop (c * m + m) rows
     rows_split = e₂ ∙ sym (append_assoc (take (c * m) rows) part' (drop (c * m + m) rows))
 
-    pub done_next : Done a m ns buf rec₀ recorded (c + 1) (start + m) (entries + kept) used' rows' counts' rec'
+    pub done_next : Done a m ns buf rec₀ recorded₀ (c + 1) (entries + kept) recorded' rows' counts' rec'
     done_next =
         let ahead : drop (c * m + m) rows ≡ drop ((c + 1) * m) buf = sym (drop-drop m (c * m) rows) ∙ ap (drop m) D.rows_ahead ∙ drop_next m buf c in
         let front : take ((c + 1) * m) rows' ≡ take (c * m) rows ++ part' = ap (take ((c + 1) * m)) rows_split ∙ take_at (take (c * m) rows ++ part') (drop (c * m + m) rows) ((c + 1) * m) front_length in
@@ -182,13 +155,11 @@ module _ {a : List ℕ} {m : ℕ} {ns buf rec₀ : List ℕ} {recorded c start e
         let line = flat (row_strikes a c (take (at ns c) (drop (c * m) buf))) in
         let others = flat (rows_strikes a (c + 1) (from m ns buf (c + 1))) in
         record {
-          within = omega arith;
-          start_is = omega (arith, D.start_is, next_place c m);
           rows_size = ap length rows_split ∙ length-append (take (c * m) rows ++ part') (drop (c * m + m) rows) ∙ omega (arith, front_length, length-drop (c * m + m) rows, D.rows_size, place_end, next_place c m);
           counts_size = ap length e₃ ∙ length-set counts c kept ∙ D.counts_size;
-          rec_size = ap length e₅ ∙ length-sets rec used line ∙ D.rec_size;
+          rec_size = ap length e₅ ∙ length-sets rec recorded line ∙ D.rec_size;
           rows_ahead = ap (drop ((c + 1) * m)) rows_split ∙ drop_at (take (c * m) rows ++ part') (drop (c * m + m) rows) ((c + 1) * m) front_length ∙ ahead;
-          counts_ahead = behind ∙ sym (drop-drop 1 c counts) ∙ ap (drop 1) D.counts_ahead ∙ drop-drop 1 c ns;
+          counts_ahead = behind ∙ drop_more_same counts ns c D.counts_ahead;
           rows_is =
               ap (λ (l : List ℕ). l ++ fill_rows m (drop (c + 1) ns) (rows_cleaned a (c + 1) (from m ns buf (c + 1))) (drop ((c + 1) * m) buf)) (front ∙ ap (λ (l : List ℕ). take (c * m) rows ++ l) e₁)
               ∙ append_assoc (take (c * m) rows) _ _
@@ -198,83 +169,63 @@ module _ {a : List ℕ} {m : ℕ} {ns buf rec₀ : List ℕ} {recorded c start e
               ∙ append_assoc (take c counts) (kept ∷ []) (lengths (rows_cleaned a (c + 1) (from m ns buf (c + 1))))
               ∙ ap (λ (x : ℕ). take c counts ++ (x ∷ lengths (rows_cleaned a (c + 1) (from m ns buf (c + 1))))) e₄
               ∙ ap (λ (l : List ℕ). take c counts ++ l) (sym (lengths_next m ns buf c h a)) ∙ D.counts_is;
-          told = ap₂ (λ (l : List ℕ) (n : ℕ). sets l n others) e₅ e₆ ∙ sets_append rec used line others ∙ ap (sets rec used) (sym (lines_next m ns buf c h a)) ∙ D.told;
+          told = ap₂ (λ (l : List ℕ) (n : ℕ). sets l n others) e₅ e₆ ∙ sets_append rec recorded line others ∙ ap (sets rec recorded) (sym (lines_next m ns buf c h a)) ∙ D.told;
           end = omega (arith, e₆, D.end, ap length (lines_next m ns buf c h a), length-append line others);
           entries_is = omega (arith, D.entries_is, joined_next m ns buf c h a, e₄);
           few = omega (arith, D.few, e₄, kept_small, next_place c m);
         }
 
-  -- the same from what the row's cleaning gave, n being the count and the part lent being the row's room
-  pub done_turn : {n : ℕ} {part' rows' counts' rec' : List ℕ} {kept used' : ℕ} → n ≡ at counts c
-      → (part' ≡ fill (take (start + m - start) (drop start rows)) n (row_cleaned a c (take n (take (start + m - start) (drop start rows)))))
-      × (rec' ≡ sets rec used (flat (row_strikes a c (take n (take (start + m - start) (drop start rows))))))
-      × (kept ≡ length (row_cleaned a c (take n (take (start + m - start) (drop start rows)))))
-      × (used' ≡ used + length (flat (row_strikes a c (take n (take (start + m - start) (drop start rows))))))
-      → rows' ≡ take start rows ++ (part' ++ drop (start + m - start) (drop start rows)) → counts' ≡ set counts c kept
-      → Done a m ns buf rec₀ recorded (c + 1) (start + m) (entries + kept) used' rows' counts' rec'
-  done_turn {n} {part'} {rows'} e (p, r, k, u) w v =
-      let q = row_read e part_is in
-      let z : start + m - start ≡ m = omega arith in
-      let placed : rows' ≡ take (c * m) rows ++ (part' ++ drop (c * m + m) rows) =
-      w ∙ ap₂ (λ (i j : ℕ). take i rows ++ (part' ++ drop j (drop i rows))) D.start_is z ∙ ap (λ (l : List ℕ). take (c * m) rows ++ (part' ++ l)) (drop-drop m (c * m) rows) in
-      done_next
-      (p ∙ ap₂ (λ (x : List ℕ) (y : List ℕ). fill x n (row_cleaned a c y)) part_is q ∙ ap (λ (i : ℕ). fill (take m (drop (c * m) buf)) i (row_cleaned a c (take (at ns c) (drop (c * m) buf)))) (e ∙ count_here))
-      placed v
-      (k ∙ ap (λ (y : List ℕ). length (row_cleaned a c y)) q)
-      (r ∙ ap (λ (y : List ℕ). sets rec used (flat (row_strikes a c y))) q)
-      (u ∙ ap (λ (y : List ℕ). used + length (flat (row_strikes a c y))) q)
+  -- the same from what the row's cleaning gave
+  pub done_turn : {part' rows' counts' rec' : List ℕ} {kept recorded' : ℕ}
+      → (part' ≡ fill (lent c m rows) (at counts c) (row_cleaned a c (take (at counts c) (lent c m rows))))
+      × (rec' ≡ sets rec recorded (flat (row_strikes a c (take (at counts c) (lent c m rows)))))
+      × (kept ≡ length (row_cleaned a c (take (at counts c) (lent c m rows))))
+      × (recorded' ≡ recorded + length (flat (row_strikes a c (take (at counts c) (lent c m rows)))))
+      → rows' ≡ take (c * m) rows ++ (part' ++ drop (c * m + m - c * m) (drop (c * m) rows)) → counts' ≡ set counts c kept
+      → Done a m ns buf rec₀ recorded₀ (c + 1) (entries + kept) recorded' rows' counts' rec'
+  done_turn (p, r, k, u) w v =
+      let z : c * m + m - c * m ≡ m = omega arith in
+      done_next (rw (taken, part_is, count_here) at p) (rw (z, drop-drop m (c * m) rows) at w) v (rw taken at k) (rw taken at r) (rw taken at u)
 
-  pub kept_fits : {n kept : ℕ} → n ≡ at counts c → kept ≡ length (row_cleaned a c (take n (take (start + m - start) (drop start rows)))) → kept ≤ m
-  kept_fits e k = omega (arith, k, ap (λ (y : List ℕ). length (row_cleaned a c y)) (row_read e part_is), kept_small)
+  pub kept_fits : {kept : ℕ} → kept ≡ length (row_cleaned a c (take (at counts c) (lent c m rows))) → entries + kept ≤ 2 ^ 24
+  kept_fits k = omega (arith, rw taken at k, kept_small, D.few, place_end, R.most)
 
   -- what the row's cleaning needs
-  pub row_requires : {n : ℕ} → n ≡ at counts c → recorded + length (flat (rows_strikes a 0 (rows_of m ns buf))) ≤ length rec₀
-      → ((n ≤ length (take (start + m - start) (drop start rows))) × (var_of c < length a)
-      × (used + length (flat (row_strikes a c (take n (take (start + m - start) (drop start rows))))) ≤ length rec))
-      × ((p : ℕ) → p < n → var_of (at (take (start + m - start) (drop start rows)) p) < length a)
-  row_requires {n} e g = (
-    (omega (arith, ap length part_is, part_size, e, count_here, R.counted c h), code_in, rw (row_read e part_is) (lines_room g)),
-    λ p l. rw part_is (entry_in p (omega (arith, e, count_here))),
-  )
+  pub count_in : at counts c ≤ length (lent c m rows)
+  count_in = omega (arith, ap length part_is, part_size, count_here, R.counted c h)
 
-module _ {a : List ℕ} {m : ℕ} {ns buf rec₀ : List ℕ} {recorded c start entries used : ℕ} {rows counts rec : List ℕ}
-    (D : Done a m ns buf rec₀ recorded c start entries used rows counts rec) (g : length ns ≤ c) where
+  pub lines_fit : recorded₀ + length (flat (rows_strikes a 0 (rows_of m ns buf))) ≤ length rec₀ → recorded + length (flat (row_strikes a c (take (at counts c) (lent c m rows)))) ≤ length rec
+  lines_fit g = rw taken (lines_room g)
+
+  pub entries_fit : (p : ℕ) → p < at counts c → var_of (at (lent c m rows) p) < length a
+  entries_fit p l = rw part_is (entry_in p (omega (arith, count_here)))
+
+module _ {a : List ℕ} {m : ℕ} {ns buf rec₀ : List ℕ} {recorded₀ c entries recorded : ℕ} {rows counts rec : List ℕ}
+    (D : Done a m ns buf rec₀ recorded₀ c entries recorded rows counts rec) (g : length ns ≤ c) where
   none : from m ns buf c ≡ []
   none = from_end m ns buf c g
 
   pub done_end : (rows ≡ fill_rows m ns (rows_cleaned a 0 (rows_of m ns buf)) buf)
       × (counts ≡ lengths (rows_cleaned a 0 (rows_of m ns buf)))
-      × (rec ≡ sets rec₀ recorded (flat (rows_strikes a 0 (rows_of m ns buf))))
+      × (rec ≡ sets rec₀ recorded₀ (flat (rows_strikes a 0 (rows_of m ns buf))))
       × (entries ≡ length (joined (rows_cleaned a 0 (rows_of m ns buf))))
-      × (used ≡ recorded + length (flat (rows_strikes a 0 (rows_of m ns buf))))
+      × (recorded ≡ recorded₀ + length (flat (rows_strikes a 0 (rows_of m ns buf))))
   unfolding fill_rows rows_cleaned rows_strikes lengths joined flat
   done_end = (
     sym (take-append-drop (c * m) rows) ∙ ap (λ (l : List ℕ). take (c * m) rows ++ l) D.rows_ahead
         ∙ ap (λ (l : List ℕ). take (c * m) rows ++ fill_rows m l (rows_cleaned a c (from m ns buf c)) (drop (c * m) buf)) (sym (drop_of_length-le ns {i = c} g)) ∙ D.rows_is,
     sym (take_all c counts (omega (arith, D.counts_size))) ∙ sym (append-nil (take c counts)) ∙ ap (λ (r : List (List ℕ)). take c counts ++ lengths (rows_cleaned a c r)) (sym none) ∙ D.counts_is,
-    ap (λ (r : List (List ℕ)). sets rec used (flat (rows_strikes a c r))) (sym none) ∙ D.told,
+    ap (λ (r : List (List ℕ)). sets rec recorded (flat (rows_strikes a c r))) (sym none) ∙ D.told,
     sym (add-zero entries) ∙ ap (λ (r : List (List ℕ)). entries + length (joined (rows_cleaned a c r))) (sym none) ∙ D.entries_is,
-    sym (add-zero used) ∙ ap (λ (r : List (List ℕ)). used + length (flat (rows_strikes a c r))) (sym none) ∙ D.end,
+    sym (add-zero recorded) ∙ ap (λ (r : List (List ℕ)). recorded + length (flat (rows_strikes a c r))) (sym none) ∙ D.end,
   )
 
 -- ---- only counting
 pub record Tallying (a : List ℕ) (m : ℕ) (ns buf tally₀ : List ℕ) (c words : ℕ) (tally : List ℕ) : Type 0 where
-  pub within : c ≤ length ns
   pub size : length tally ≡ length tally₀
   pub short : words ≤ 4 * (c * m)
   pub told : words + length (flat (rows_strikes a c (from m ns buf c))) ≡ length (flat (rows_strikes a 0 (rows_of m ns buf)))
   pub tally_is : sets tally c (lengths (rows_cleaned a c (from m ns buf c))) ≡ sets tally₀ 0 (lengths (rows_cleaned a 0 (rows_of m ns buf)))
-
-pub tallying_start : (a : List ℕ) (m : ℕ) (ns buf tally : List ℕ) → Tallying a m ns buf tally 0 0 tally
-tallying_start a m ns buf tally =
-    let f = from_start m ns buf in
-    record {
-      within = omega arith;
-      size = refl;
-      short = omega arith;
-      told = ap (λ (r : List (List ℕ)). 0 + length (flat (rows_strikes a 0 r))) f ∙ zero-add _;
-      tally_is = ap (λ (r : List (List ℕ)). sets tally 0 (lengths (rows_cleaned a 0 r))) f;
-    }
 
 module _ {a : List ℕ} {m : ℕ} {ns buf tally₀ : List ℕ} {c words : ℕ} {tally : List ℕ} (T : Tallying a m ns buf tally₀ c words tally) (R : RowsReady m ns buf a) (h : c < length ns) where
   abbrev row : List ℕ
@@ -302,7 +253,6 @@ module _ {a : List ℕ} {m : ℕ} {ns buf tally₀ : List ℕ} {c words : ℕ} {
   tallying_next {kept} {more} {tally'} e₁ e₂ e₃ =
       let others = lengths (rows_cleaned a (c + 1) (from m ns buf (c + 1))) in
       record {
-        within = omega arith;
         size = ap length e₃ ∙ length-set tally c kept ∙ T.size;
         short = omega (arith, T.short, e₂, strikes_length a c row, row_length_lem, R.counted c h, next_place c m);
         told = omega (arith, T.told, e₂, ap length (lines_next m ns buf c h a), length-append (flat (row_strikes a c row)) (flat (rows_strikes a (c + 1) (from m ns buf (c + 1)))));
@@ -313,24 +263,19 @@ module _ {a : List ℕ} {m : ℕ} {ns buf tally₀ : List ℕ} {c words : ℕ} {
       }
 
   -- the same from what the row's counting gave, `read` being the row as it was lent
-  module _ {read : List ℕ} (e : read ≡ row) {kept more : ℕ} (k : (kept ≡ length (row_cleaned a c read)) × (more ≡ length (flat (row_strikes a c read)))) where
-    kept_is : kept ≡ length (row_cleaned a c row)
-    kept_is = k.0 ∙ ap (λ (y : List ℕ). length (row_cleaned a c y)) e
+  module _ {read : List ℕ} (e : read ≡ list_at (rows_of m ns buf) c) where
+    read_is : read ≡ row
+    read_is = e ∙ row_at m ns buf c h
 
-    more_is : more ≡ length (flat (row_strikes a c row))
-    more_is = k.1 ∙ ap (λ (y : List ℕ). length (flat (row_strikes a c y))) e
+    pub entries_in : (p : ℕ) → p < length read → var_of (at read p) < length a
+    entries_in = rw read_is row_entry
 
-    pub kept_few : kept ≤ m
-    kept_few = omega (arith, kept_is, row_few)
+    module _ {kept more : ℕ} (k : (kept ≡ length (row_cleaned a c read)) × (more ≡ length (flat (row_strikes a c read)))) where
+      pub counted_few : (kept ≤ 2 ^ 24) × (words + more ≤ 2 ^ 26)
+      counted_few = (omega (arith, rw read_is at k.0, row_few, row_end, R.most), omega (arith, rw read_is at k.1, words_few, R.most))
 
-    pub more_few : words + more ≤ 4 * length buf
-    more_few = omega (arith, more_is, words_few)
-
-    pub tallying_turn : {tally' : List ℕ} → tally' ≡ set tally c kept → Tallying a m ns buf tally₀ (c + 1) (words + more) tally'
-    tallying_turn v = tallying_next kept_is more_is v
-
-  pub entries_in : {read : List ℕ} → read ≡ row → (p : ℕ) → p < length read → var_of (at read p) < length a
-  entries_in e = rw e row_entry
+      pub tallying_turn : {tally' : List ℕ} → tally' ≡ set tally c kept → Tallying a m ns buf tally₀ (c + 1) (words + more) tally'
+      tallying_turn v = tallying_next (rw read_is at k.0) (rw read_is at k.1) v
 
 module _ {a : List ℕ} {m : ℕ} {ns buf tally₀ : List ℕ} {c words : ℕ} {tally : List ℕ} (T : Tallying a m ns buf tally₀ c words tally) (g : length ns ≤ c) where
   pub tallying_end : (words ≡ length (flat (rows_strikes a 0 (rows_of m ns buf)))) × (tally ≡ sets tally₀ 0 (lengths (rows_cleaned a 0 (rows_of m ns buf))))

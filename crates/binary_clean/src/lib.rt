@@ -1,7 +1,7 @@
 // Cleaning of binary.rs: "Cleaning, no call of its own, goes by ascending code, in row order: an assigned literal's row empties, another keeps its unassigned literals."
 #![tactic(auto)]
 
-ghost use Rattle.std.specs.Prelude.{◌≡◌, Bool, List, ℕ, ◌+◌, ◌*◌, ◌≤◌, ◌<◌, length, take};
+ghost use Rattle.std.specs.Prelude.{◌≡◌, ℕ, ◌+◌, ◌*◌, ◌≤◌, ◌<◌, length, take};
 ghost use Rattle.std.proofs.lemmas.List.Edits.{sets};
 ghost use Rattle.laws.specs.Lists.{at, lengths, joined, fill};
 ghost use Rattle.kinds.specs.Clauses.{var_of};
@@ -40,7 +40,7 @@ pub fn clean_row(
     code: u32,
     values: &[u8],
     rec: &mut [u32],
-    recorded: usize,
+    mut recorded: usize,
 ) -> Cleaned
     requires n_in_bounds { (n ≤ length row.old) × (var_of code < length values.now) × (recorded + length (flat (row_strikes values.now code (take n row.old))) ≤ length rec.old) }
     requires by_index { (p : ℕ) → p < n → var_of (at row.old p) < length values.now }
@@ -50,25 +50,20 @@ pub fn clean_row(
         × (result.recorded ≡ recorded + length (flat (row_strikes values.now code (take n row.old)))) }
 {
     let not_code = Lit(code).negated().0;
-    let mut i = 0usize;
-    let mut to = 0usize;
-    let mut used = recorded;
-    while i < n {
+    let mut to = 0;
+    for i in 0..n {
         let b = row[i];
-        i += 1;
         if stays_in(values, code, b) {
             row[to] = b;
             to += 1;
-            continue;
-        }
-        if not_code < b {
-            used = record::strike_pair(rec, used, not_code, b);
+        } else if not_code < b {
+            recorded = record::strike_pair(rec, recorded, not_code, b);
         }
     }
     buffers::clear(row, to, n);
     Cleaned {
         entries: to,
-        recorded: used,
+        recorded,
     }
 }
 
@@ -79,7 +74,7 @@ pub fn clean_rows(
     counts: &mut [u32],
     values: &[u8],
     rec: &mut [u32],
-    recorded: usize,
+    mut recorded: usize,
 ) -> Cleaned
     requires rows_ready { RowsReady room counts.old rows.old values.now }
     requires rows_in_bounds { recorded + length (flat (rows_strikes values.now 0 (rows_of room counts.old rows.old))) ≤ length rec.old }
@@ -89,25 +84,17 @@ pub fn clean_rows(
         × (result.entries ≡ length (joined (rows_cleaned values.now 0 (rows_of room counts.old rows.old))))
         × (result.recorded ≡ recorded + length (flat (rows_strikes values.now 0 (rows_of room counts.old rows.old)))) }
 {
-    let n = counts.len();
-    let mut c = 0usize;
-    let mut start = 0usize;
-    let mut entries = 0usize;
-    let mut used = recorded;
-    while c < n {
-        let kept = buffers::word(counts, c);
-        let end = start + room;
-        let done = clean_row(&mut rows[start..end], kept, c as u32, values, rec, used);
+    let mut entries = 0;
+    for c in 0..counts.len() {
+        let kept = counts[c] as usize;
+        let start = c * room;
+        let row = &mut rows[start..start + room];
+        let done = clean_row(row, kept, c as u32, values, rec, recorded);
         counts[c] = done.entries as u32;
         entries += done.entries;
-        used = done.recorded;
-        start = end;
-        c += 1;
+        recorded = done.recorded;
     }
-    Cleaned {
-        entries: entries,
-        recorded: used,
-    }
+    Cleaned { entries, recorded }
 }
 
 // What cleaning would leave of a row, and the words of its lines; nothing is written.
@@ -123,25 +110,16 @@ pub fn count_row(row: &[u32], code: u32, values: &[u8]) -> Counted
     ensures { (result.entries ≡ length (row_cleaned values.now code row.now)) × (result.words ≡ length (flat (row_strikes values.now code row.now))) }
 {
     let negated = Lit(code).negated().0;
-    let n = row.len();
-    let mut i = 0usize;
-    let mut entries = 0usize;
-    let mut words = 0usize;
-    while i < n {
-        let b = row[i];
-        i += 1;
+    let mut entries = 0;
+    let mut words = 0;
+    for &b in row {
         if stays_in(values, code, b) {
             entries += 1;
-            continue;
-        }
-        if negated < b {
+        } else if negated < b {
             words += 4;
         }
     }
-    Counted {
-        entries: entries,
-        words: words,
-    }
+    Counted { entries, words }
 }
 
 // The same for all rows: what stays in each goes into the tally, by code. Gives the words of all lines.
@@ -157,15 +135,13 @@ pub fn count_rows(
     ensures { (result ≡ length (flat (rows_strikes values.now 0 (rows_of room counts.now rows.now))))
         × (tally.new ≡ sets tally.old 0 (lengths (rows_cleaned values.now 0 (rows_of room counts.now rows.now)))) }
 {
-    let n = counts.len();
-    let mut c = 0usize;
-    let mut words = 0usize;
-    while c < n {
-        let row = binary::implied(rows, room, counts, Lit(c as u32));
-        let counted = count_row(row, c as u32, values);
+    let mut words = 0;
+    for c in 0..counts.len() {
+        let code = c as u32;
+        let row = binary::implied(rows, room, counts, Lit(code));
+        let counted = count_row(row, code, values);
         tally[c] = counted.entries as u32;
         words += counted.words;
-        c += 1;
     }
     words
 }

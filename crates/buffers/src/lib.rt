@@ -5,7 +5,7 @@ ghost use Rattle.std.specs.Prelude.{◌≡◌, ℕ, ◌+◌, ◌-◌, ◌≤◌,
 ghost use Rattle.std.proofs.lemmas.List.Edits.{sets};
 ghost use Rattle.laws.specs.Lists.{at, read_n};
 
-// Word k as a usize.
+// Word k as a usize, with its range; `byte` is the same of bytes: a bound over both would say the range by a ghost member, and each caller would look it up there.
 pub fn word(words: &[u32], k: usize) -> usize
     requires { k < length words.now }
     ensures { (result ≡ at words.now k) × (result < 2 ^ 32) }
@@ -33,11 +33,7 @@ pub fn clear(words: &mut [u32], from: usize, to: usize)
     requires { (from ≤ to) × (to ≤ length words.old) }
     ensures { words.new ≡ sets words.old from (replicate (to - from) 0) }
 {
-    let mut i = from;
-    while i < to {
-        words[i] = 0;
-        i += 1;
-    }
+    words[from..to].fill(0);
 }
 
 // n numbers of `from`, from `start` on, over those of `to` from `place` on.
@@ -45,14 +41,7 @@ pub fn copy(to: &mut [u32], place: usize, from: &[u32], start: usize, n: usize)
     requires { (place + n ≤ length to.old) × (start + n ≤ length from.now) }
     ensures { to.new ≡ sets to.old place (read_n from.now start n) }
 {
-    let mut i = place;
-    let mut j = start;
-    let end = place + n;
-    while i < end {
-        to[i] = from[j];
-        j += 1;
-        i += 1;
-    }
+    to[place..place + n].copy_from_slice(&from[start..start + n]);
 }
 
 // n numbers moved down inside one buffer; the two places may overlap.
@@ -60,9 +49,5 @@ pub fn move_down(words: &mut [u32], from: usize, to: usize, n: usize)
     requires { (to ≤ from) × (from + n ≤ length words.old) }
     ensures { words.new ≡ sets words.old to (read_n words.old from n) }
 {
-    let mut j = 0;
-    while j < n {
-        words[to + j] = words[from + j];
-        j += 1;
-    }
+    words.copy_within(from..from + n, to);
 }

@@ -1,6 +1,6 @@
 -- What holds while the live clauses close up. Assumes nothing.
 use mathlib.Core.Path.{◌≡◌, refl, sym, ap, ◌∙◌}
-use mathlib.Core.Bool.{Bool, true, false, not}
+use mathlib.Core.Bool.{true, false}
 use mathlib.Core.List.{List, [], ◌∷◌, ◌++◌, append_assoc, append-nil}
 use Prim.Native.Nat.{ℕ, ◌+◌, ◌-◌, ◌≤◌, ◌<◌}
 use native.Mathlib.Numerals.{add-one}
@@ -9,7 +9,6 @@ use lib.ListN.{length, set, take, drop, replicate, length-set, drop_of_length-le
 use lib.Seq.{length-take-le, take-suc-set, drop-set-lt, sets, length-sets}
 use Rattle.laws.specs.Lists.{at, read_n, fill}
 use Rattle.laws.proofs.Reading.{length_read, read_same}
-use Rattle.laws.proofs.Tests.{passed, failed}
 use Rattle.kinds.specs.Clauses.{len_at, size_at, end_at, words_at, deleted_at}
 use Rattle.laws.proofs.Tails.{drop_more, at_more, drop_next, take_sets, drop_sets, filled}
 use Rattle.close_up.proofs.Laying.{Laid, laid_le, kept, offsets, kept_live, kept_deleted, offsets_live, offsets_deleted, kept_none, offsets_none}
@@ -17,7 +16,6 @@ use Rattle.close_up.proofs.Laying.{Laid, laid_le, kept, offsets, kept_live, kept
 pub record Closing (used n : ℕ) (ws₀ cs₀ ws cs : List ℕ) (i to k : ℕ) : Type 0 where
   -- where the clause list has got to in the words
   pub p : ℕ
-  pub i_le : i ≤ n
   pub to_le : to ≤ p
   pub k_le : k ≤ i
   pub w_len : length ws ≡ length ws₀
@@ -45,7 +43,6 @@ pub record Done (used n : ℕ) (ws₀ cs₀ ws cs : List ℕ) (to k : ℕ) : Typ
 pub close_start : (used n : ℕ) (ws cs : List ℕ) → Laid ws used 0 (take n cs) → Closing used n ws cs ws cs 0 0 0
 close_start used n ws cs l = record {
   p = 0;
-  i_le = omega arith;
   to_le = omega arith;
   k_le = omega arith;
   w_len = refl;
@@ -57,17 +54,20 @@ close_start used n ws cs l = record {
   c_done = refl;
 }
 
-module _ (used n : ℕ) (ws₀ cs₀ ws cs : List ℕ) (i to k : ℕ) (fit-w : used ≤ length ws₀) (fit-c : n ≤ length cs₀) (I : Closing used n ws₀ cs₀ ws cs i to k) where
+module _ {used n : ℕ} {ws₀ cs₀ ws cs : List ℕ} {i to k : ℕ} (fit-w : used ≤ length ws₀) (fit-c : n ≤ length cs₀) (I : Closing used n ws₀ cs₀ ws cs i to k) where
   pub place_le : I.p ≤ used
   place_le = laid_le ws₀ used I.p (drop i (take n cs₀)) I.laid
 
   -- the clause at o is read
-  module _ (lt : i < n) (o : ℕ) (there : o ≡ at cs i) where
+  module _ (lt : i < n) where
+    abbrev o : ℕ
+    o = at cs i
+
     abbrev rest : List ℕ
     rest = drop (i + 1) (take n cs₀)
 
     todo : drop i (take n cs₀) ≡ o ∷ rest
-    todo = drop_next cs₀ n i fit-c lt ∙ ap (λ (x : ℕ). x ∷ rest) (sym (there ∙ at_more i i cs cs₀ (omega arith) I.c_rest))
+    todo = drop_next cs₀ n i fit-c lt ∙ ap (λ (x : ℕ). x ∷ rest) (sym (at_more i i cs cs₀ (omega arith) I.c_rest))
 
     laid_next : (I.p ≤ o) × Laid ws₀ used (end_at ws₀ o) rest
     unfolding Laid
@@ -77,25 +77,22 @@ module _ (used n : ℕ) (ws₀ cs₀ ws cs : List ℕ) (i to k : ℕ) (fit-w : u
     turn =
         let low = laid_next.0 in
         let t = I.to_le in
-        let h : head_same_lem = at_more I.p (o + 1) ws ws₀ (omega arith) I.w_rest in
+        let h : at ws (o + 1) ≡ at ws₀ (o + 1) = at_more I.p (o + 1) ws ws₀ (omega arith) I.w_rest in
         record {
           low = omega arith;
           end = laid_le ws₀ used (end_at ws₀ o) rest laid_next.1;
           same_len = at_more I.p (o + 2) ws ws₀ (omega arith) I.w_rest;
           same_deleted = rw h;
         }
-      where
-        head_same_lem : Type 0
-        head_same_lem = at ws (o + 1) ≡ at ws₀ (o + 1)
 
-    skipped : deleted_at ws₀ o ≡ true → Closing used n ws₀ cs₀ ws cs (i + 1) to k
-    skipped d =
+    pub close_deleted : deleted_at ws o ≡ true → Closing used n ws₀ cs₀ ws cs (i + 1) to k
+    close_deleted f =
+        let d = sym turn.same_deleted ∙ f in
         let low = laid_next.0 in
         let t = I.to_le in
         let s = I.k_le in
         record {
           p = end_at ws₀ o;
-          i_le = omega arith;
           to_le = omega arith;
           k_le = omega arith;
           w_len = I.w_len;
@@ -123,7 +120,6 @@ module _ (used n : ℕ) (ws₀ cs₀ ws cs : List ℕ) (i to k : ℕ) (fit-w : u
         let same : to + length (words_at ws₀ o) ≡ to + size_at ws₀ o = omega arith in
         record {
           p = end_at ws₀ o;
-          i_le = omega arith;
           to_le = omega arith;
           k_le = omega arith;
           w_len = length-sets ws to (words_at ws₀ o) ∙ wl;
@@ -143,17 +139,12 @@ module _ (used n : ℕ) (ws₀ cs₀ ws cs : List ℕ) (i to k : ℕ) (fit-w : u
               ∙ ap (λ (l : List ℕ). take k cs ++ l) (sym (ap (offsets ws₀ to) todo ∙ offsets_live ws₀ o rest to d)) ∙ I.c_done;
         }
 
-    module _ (r : Bool) (e : r ≡ deleted_at ws o) where
-      pub close_deleted : not r ≡ false → Closing used n ws₀ cs₀ ws cs (i + 1) to k
-      close_deleted f = skipped (sym turn.same_deleted ∙ passed e f)
+    pub close_live : deleted_at ws o ≡ false → Closing used n ws₀ cs₀ (sets ws to (read_n ws o (size_at ws o))) (set cs k to) (i + 1) (to + size_at ws o) (k + 1)
+    close_live f =
+        let z : size_at ws o ≡ size_at ws₀ o = ap (λ (x : ℕ). x + 3) turn.same_len in
+        rw (z, block_same) (moved (sym turn.same_deleted ∙ f))
 
-      pub close_live : not r ≡ true → (m : ℕ) → m ≡ len_at ws o → (ws₁ cs₁ : List ℕ) → ws₁ ≡ sets ws to (read_n ws o (m + 3)) → cs₁ ≡ set cs k to → Closing used n ws₀ cs₀ ws₁ cs₁ (i + 1) (to + (m + 3)) (k + 1)
-      close_live f m q ws₁ cs₁ w c =
-          let z : m + 3 ≡ size_at ws₀ o = ap (λ (x : ℕ). x + 3) (q ∙ turn.same_len) in
-          let w' : ws₁ ≡ sets ws to (words_at ws₀ o) = w ∙ ap (λ (x : ℕ). sets ws to (read_n ws o x)) z ∙ ap (sets ws to) block_same in
-          rw (w', c, z) (moved (sym turn.same_deleted ∙ failed e f))
-
-  module _ (end : n ≤ i) where
+  module _ (i_le : i ≤ n) (end : n ≤ i) where
     none : drop i (take n cs₀) ≡ []
     none = drop_of_length-le (take n cs₀) {i = i} (omega (arith, length-take-le n cs₀ fit-c))
 
@@ -167,7 +158,7 @@ module _ (used n : ℕ) (ws₀ cs₀ ws cs : List ℕ) (i to k : ℕ) (fit-w : u
     w_count = sym (length-take-le to ws (omega (arith, I.to_le, place_le, I.w_len))) ∙ ap length w_all
 
     c_count : k ≡ length (offsets ws₀ 0 (take n cs₀))
-    c_count = sym (length-take-le k cs (omega (arith, I.k_le, I.i_le, I.c_len))) ∙ ap length c_all
+    c_count = sym (length-take-le k cs (omega (arith, I.k_le, i_le, I.c_len))) ∙ ap length c_all
 
     pub close_end : Done used n ws₀ cs₀ ws cs to k
     close_end =
@@ -176,10 +167,9 @@ module _ (used n : ℕ) (ws₀ cs₀ ws cs : List ℕ) (i to k : ℕ) (fit-w : u
         let wl = I.w_len in
         let cl = I.c_len in
         let kl = I.k_le in
-        let il = I.i_le in
         record {
           words = filled ws₀ ws used to (kept ws₀ (take n cs₀)) w_all w_count (omega arith) (omega arith) (drop_more I.p used ws ws₀ q I.w_rest);
-          list = filled cs₀ cs n k (offsets ws₀ 0 (take n cs₀)) c_all c_count (omega arith) (omega arith) (drop_more i n cs cs₀ il I.c_rest);
+          list = filled cs₀ cs n k (offsets ws₀ 0 (take n cs₀)) c_all c_count (omega arith) (omega arith) (drop_more i n cs cs₀ i_le I.c_rest);
           count_words = w_count;
           count_list = c_count;
         }

@@ -26,14 +26,12 @@ pub fn close_up(words: &mut [u32], used: usize, clauses: &mut [u32], n: usize) -
         × (result.used ≡ length (joined (blocks words.old (undeleted words.old (take n clauses.old)))))
         × (result.listed ≡ length (starts 0 (blocks words.old (undeleted words.old (take n clauses.old))))) }
 {
-    let mut i = 0;
     let mut to = 0;
     let mut k = 0;
-    while i < n {
-        let offset = buffers::word(clauses, i);
-        i += 1;
+    for i in 0..n {
+        let offset = clauses[i] as usize;
         if !judge_words::deleted_at(words, offset) {
-            let size = buffers::word(words, offset + 2) + 3;
+            let size = words[offset + 2] as usize + 3;
             buffers::move_down(words, offset, to, size);
             buffers::put(clauses, k, to);
             to += size;
@@ -62,14 +60,10 @@ pub fn rebuild(
     ensures { (list.new ≡ fill list.old used (of_tier words.now tier (take n clauses.now)))
         × (result ≡ length (of_tier words.now tier (take n clauses.now))) }
 {
-    let mut i = 0;
     let mut k = 0;
-    while i < n {
-        let offset = buffers::word(clauses, i);
-        i += 1;
-        let found = judge_words::tier_at(words, offset);
-        if found == tier {
-            buffers::put(list, k, offset);
+    for offset in &clauses[..n] {
+        if judge_words::tier_at(words, *offset as usize) == tier {
+            list[k] = *offset;
             k += 1;
         }
     }
@@ -122,13 +116,11 @@ pub fn follow(
     requires values_len { (length values.now ≡ vars) × (length kinds.now ≡ vars) × (length reasons.old ≡ vars) × (length levels.now ≡ vars) }
     ensures { reasons.new ≡ redirected_all words.now values.now kinds.now 0 (take n clauses.now) reasons.old }
 {
-    let mut i = 0;
     let mut to = 0;
-    while i < n {
-        let offset = buffers::word(clauses, i);
-        i += 1;
+    for r in &clauses[..n] {
+        let offset = *r as usize;
         if !judge_words::deleted_at(words, offset) {
-            let size = buffers::word(words, offset + 2) + 3;
+            let size = words[offset + 2] as usize + 3;
             let first = words[offset + 3];
             redirect(values, kinds, reasons, levels, Lit(first), offset, to);
             to += size;

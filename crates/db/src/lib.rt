@@ -1,4 +1,5 @@
 // Adding a long clause and setting its tier: db.rs. Each call judges what it is lent, then looks for its own refusals, then takes its step.
+// The store's buffers are slices beside the state, each a parameter: "a state by value, slices beside it" (docs/01-scope.md, What must change shape).
 #![tactic(auto)]
 
 ghost use Rattle.std.specs.Prelude.{◌≡◌, not, ◌&&◌, ◌||◌, ℕ, ◌≤◌, ◌<◌, length, eqb};
@@ -7,9 +8,9 @@ ghost use Rattle.kinds.specs.Lent.{lent_five, no_host};
 ghost use Rattle.calls.specs.Call.{add_clause, set_tier, five_lists};
 ghost use Rattle.calls.specs.Refusing.{clause_wrong, tier_wrong, glue_wrong};
 ghost use Rattle.calls.specs.Outcome.{judged, has_room, done, nothing};
-ghost use Rattle.calls.specs.Answers.{added_number, added_answer, plain_number};
+ghost use Rattle.calls.specs.Answers.{number_of, added_answer, state_added, state_after};
 
-use kinds::{Added, AddedReply, ClauseRef, Plain, PlainReply, Refusal, State};
+use kinds::{Added, ClauseRef, Refusal, State};
 
 // ---- adding a long clause
 
@@ -67,9 +68,7 @@ fn long_fits(
     if clauses.len() == s.clauses {
         return false;
     }
-    let lens = s.tiers;
-    let used = lens[tier];
-    used != tier_lists::room(irred.len(), core.len(), mid.len(), local.len(), tier)
+    s.tiers[tier] != tier_lists::room(irred.len(), core.len(), mid.len(), local.len(), tier)
 }
 
 // `add_clause`: answers the new clause's reference.
@@ -84,43 +83,28 @@ pub fn add_clause(
     tier: usize,
     glue: usize,
     lits: &[u32],
-) -> AddedReply
-    ensures { record { number = added_number result.answer; answer = added_answer result.answer; then = lent_five result.state words.new clauses.new irred.new core.new mid.new local.new no_host }
+) -> Result<Added, Refusal>
+    ensures { record { number = number_of result; answer = added_answer result; then = lent_five (state_added s result) words.new clauses.new irred.new core.new mid.new local.new no_host }
         ≡ done (add_clause tier glue lits.now) (lent_five s words.old clauses.old irred.old core.old mid.old local.old no_host) }
 {
-    let judging = judge::judge_five(s, words, clauses, irred, core, mid, local);
-    if judging != 0 {
-        return AddedReply {
-            answer: Added::Refused(kinds::refusal_of(judging)),
-            state: s,
-        };
-    }
+    judge::judge_five(s, words, clauses, irred, core, mid, local)?;
     if clause_wrong(s.vars, lits) {
-        return AddedReply {
-            answer: Added::Refused(Refusal::Clause),
-            state: s,
-        };
+        return Err(Refusal::Clause);
     }
     if tier_wrong(tier, glue) {
-        return AddedReply {
-            answer: Added::Refused(Refusal::Tier),
-            state: s,
-        };
+        return Err(Refusal::Tier);
     }
     if !long_fits(s, words, clauses, irred, core, mid, local, tier, glue, lits) {
-        return AddedReply {
-            answer: Added::Refused(Refusal::Room),
-            state: s,
-        };
+        return Err(Refusal::Room);
     }
     let offset = s.words as u32;
     let state = db_steps::append_clause(
         s, words, clauses, irred, core, mid, local, tier, glue, lits,
     );
-    AddedReply {
-        answer: Added::At(ClauseRef(offset)),
-        state: state,
-    }
+    Ok(Added {
+        cref: ClauseRef(offset),
+        state,
+    })
 }
 
 // ---- setting a tier
@@ -158,9 +142,7 @@ fn tier_fits(
     if old == tier {
         return true;
     }
-    let lens = s.tiers;
-    let used = lens[tier];
-    used != tier_lists::room(irred.len(), core.len(), mid.len(), local.len(), tier)
+    s.tiers[tier] != tier_lists::room(irred.len(), core.len(), mid.len(), local.len(), tier)
 }
 
 // `set_clause_tier`.
@@ -174,46 +156,24 @@ pub fn set_clause_tier(
     local: &mut [u32],
     cref: ClauseRef,
     tier: usize,
-) -> PlainReply
-    ensures { record { number = plain_number result.answer; answer = nothing; then = lent_five result.state words.new clauses.new irred.new core.new mid.new local.new no_host }
+) -> Result<State, Refusal>
+    ensures { record { number = number_of result; answer = nothing; then = lent_five (state_after s result) words.new clauses.new irred.new core.new mid.new local.new no_host }
         ≡ done (set_tier cref.0 tier) (lent_five s words.old clauses.old irred.old core.old mid.old local.old no_host) }
 {
-    let judging = judge::judge_five(s, words, clauses, irred, core, mid, local);
-    if judging != 0 {
-        return PlainReply {
-            answer: Plain::Refused(kinds::refusal_of(judging)),
-            state: s,
-        };
-    }
+    judge::judge_five(s, words, clauses, irred, core, mid, local)?;
     if 3 < tier {
-        return PlainReply {
-            answer: Plain::Refused(Refusal::Tier),
-            state: s,
-        };
+        return Err(Refusal::Tier);
     }
     let offset = cref.0 as usize;
     if !judge_words::is_live(words, s.words, clauses, s.clauses, offset) {
-        return PlainReply {
-            answer: Plain::Refused(Refusal::Reference),
-            state: s,
-        };
+        return Err(Refusal::Reference);
     }
     let old = judge_words::tier_at(words, offset);
     if irred_change(old, tier) {
-        return PlainReply {
-            answer: Plain::Refused(Refusal::Original),
-            state: s,
-        };
+        return Err(Refusal::Original);
     }
     if !tier_fits(s, words, clauses, irred, core, mid, local, cref, tier, old) {
-        return PlainReply {
-            answer: Plain::Refused(Refusal::Room),
-            state: s,
-        };
+        return Err(Refusal::Room);
     }
-    let state = db_steps::change_tier(s, words, clauses, irred, core, mid, local, cref, tier);
-    PlainReply {
-        answer: Plain::Done,
-        state: state,
-    }
+    Ok(db_steps::change_tier(s, words, clauses, irred, core, mid, local, cref, tier))
 }

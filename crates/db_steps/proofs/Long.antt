@@ -1,12 +1,11 @@
 -- Adding a long clause, on what is lent: what the code may take for granted, and what its writes come to. Assumes nothing.
-use mathlib.Core.Path.{◌≡◌, refl, sym, ap, ap₂, ◌∙◌, subst}
-use mathlib.Core.Bool.{Bool, true, false, ◌||◌}
-use mathlib.Core.List.{List, [], ◌∷◌, ◌++◌}
+use mathlib.Core.Path.{◌≡◌, refl, sym, ap, ◌∙◌}
+use mathlib.Core.List.{List, [], ◌∷◌}
 use Prim.Native.Nat.{ℕ, ◌+◌, ◌^◌, ◌≤◌, ◌<◌}
 use native.Mathlib.Omega.{arith}
 use lib.ListN.{length, set, take, length-append}
 use lib.Seq.{sets, length-take-le, get_or-set_same}
-use Rattle.laws.specs.Lists.{at, list_at, snoc, more, push, lengths, take_each, fill, fill_each}
+use Rattle.laws.specs.Lists.{at, list_at, snoc, more, push, lengths, take_each, fill_each}
 use Rattle.laws.proofs.Folds.{count_le}
 use Rattle.laws.proofs.Fills.{fill_push}
 use Rattle.kinds.specs.Lent.{Lent, lent_five, no_host, with_tier_buffers}
@@ -15,10 +14,10 @@ use Rattle.kinds.specs.Setters.{state_of}
 use Rattle.kinds.specs.declared.State.{State}
 use Rattle.kinds.proofs.RowLayout.{at_lengths}
 use Rattle.kinds.proofs.TierLayout.{Within, lengths_each_push, within_of}
-use Rattle.calls.specs.Call.{Command, add_clause, parts, five_lists}
+use Rattle.calls.specs.Call.{add_clause, parts, five_lists}
 use Rattle.calls.specs.StorePasses.{live_in}
 use Rattle.calls.specs.Adding.{new_words, added_long}
-use Rattle.calls.specs.Refusing.{own, clause_wrong, tier_wrong, glue_wrong}
+use Rattle.calls.specs.Refusing.{own, tier_wrong}
 use Rattle.calls.specs.Outcome.{judged, refused_for, has_room, step, own_number}
 use Rattle.calls.proofs.Laws.{not_refused, has_room_lem}
 use Rattle.calls.proofs.Readings.{words_pass_lem, held_words}

@@ -1,12 +1,12 @@
 -- Deleting a clause, on what is lent. Assumes nothing.
-use mathlib.Core.Path.{◌≡◌, refl, sym, ap, ap₂, ◌∙◌, subst}
-use mathlib.Core.Bool.{Bool, true, false}
-use mathlib.Core.List.{List, [], ◌∷◌, ◌++◌}
-use Prim.Native.Nat.{ℕ, ◌+◌, ◌-◌, ◌^◌, ◌≤◌, ◌<◌}
+use mathlib.Core.Path.{◌≡◌, refl, sym, ap₂, ◌∙◌}
+use mathlib.Core.Bool.{true}
+use mathlib.Core.List.{List, [], ◌++◌}
+use Prim.Native.Nat.{ℕ, ◌+◌, ◌^◌, ◌≤◌, ◌<◌}
 use native.Mathlib.Omega.{arith}
 use lib.ListN.{length, set, take, length-append}
 use lib.Seq.{sets, length-take-le}
-use Rattle.laws.specs.Lists.{at, list_at, less, lengths, take_each, fill_each}
+use Rattle.laws.specs.Lists.{at, less}
 use Rattle.laws.proofs.Fills.{fill_same, fill_append}
 use Rattle.laws.proofs.Reading.{length_read}
 use Rattle.kinds.specs.Header.{with_deleted}
@@ -17,7 +17,7 @@ use Rattle.kinds.specs.Layout.{view, side, lay, lay_state, lay_host}
 use Rattle.kinds.specs.Setters.{state_of}
 use Rattle.kinds.specs.declared.State.{State}
 use Rattle.kinds.proofs.TierLayout.{Within, lengths_each, each_same}
-use Rattle.calls.specs.Call.{Command, delete, parts, five_lists_record_host}
+use Rattle.calls.specs.Call.{delete, parts, five_lists_record_host}
 use Rattle.calls.specs.Adding.{removed, strike_noted, struck, deleted}
 use Rattle.calls.specs.Refusing.{own}
 use Rattle.calls.specs.Outcome.{judged, refused_for, has_room, step, own_number}

@@ -1,12 +1,11 @@
 -- Setting a clause's tier, on what is lent. Assumes nothing.
-use mathlib.Core.Path.{◌≡◌, refl, sym, ap, ap₂, ◌∙◌, subst}
-use mathlib.Core.Bool.{Bool, true, false, cond}
+use mathlib.Core.Path.{◌≡◌, refl, sym, ap, ◌∙◌, subst}
+use mathlib.Core.Bool.{Bool, true, cond}
 use mathlib.Core.List.{List, [], ◌∷◌}
 use Prim.Native.Nat.{ℕ, ◌+◌, ◌-◌, ◌^◌, ◌≤◌, ◌<◌}
 use native.Mathlib.Omega.{arith}
 use lib.ListN.{length, set, take}
 use lib.Seq.{length-take-le, get_or-set_other}
-use lib.Dec.{eqb}
 use borrow.Author.Tests.{eq-eqb, ne_eqb}
 use Rattle.laws.specs.Lists.{at, list_at, more, less, push, lengths, take_each, fill_each}
 use Rattle.laws.proofs.Folds.{count_le}
@@ -18,7 +17,7 @@ use Rattle.kinds.specs.Held.{Held}
 use Rattle.kinds.specs.Layout.{view, side, lay, lay_state, lay_host}
 use Rattle.kinds.specs.Setters.{state_of}
 use Rattle.kinds.specs.declared.State.{State}
-use Rattle.calls.specs.Call.{Command, set_tier, parts, five_lists}
+use Rattle.calls.specs.Call.{set_tier, parts, five_lists}
 use Rattle.calls.specs.StorePasses.{live_in}
 use Rattle.calls.specs.Adding.{moved_to, tier_set}
 use Rattle.calls.specs.Refusing.{own}
@@ -28,7 +27,7 @@ use Rattle.calls.proofs.Readings.{words_pass_lem, held_words}
 use Rattle.calls.proofs.Judged.{sizes_judged, store_judged, words_sized_lem, clauses_sized, tier_sized_lem, tier_fits}
 use Rattle.calls.proofs.Given.{first_not, others_not, tier_right, live_right}
 use Rattle.calls.proofs.Live.{live_there}
-use Rattle.calls.proofs.Unchanged.{unchanged, tiers_within}
+use Rattle.calls.proofs.Unchanged.{unchanged}
 use Rattle.db_steps.proofs.Long.{grown}
 
 pub record TierReady (s : State) (words clauses irred core mid local : List ℕ) (o t : ℕ) : Type 0 where

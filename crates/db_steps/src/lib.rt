@@ -1,14 +1,15 @@
 // The steps of db.rs, on what is lent. Each stands on what the judging and the refusals have established.
+// The store's buffers are slices beside the state, each a parameter: "a state by value, slices beside it" (docs/01-scope.md, What must change shape).
 #![tactic(auto)]
 
 ghost use Rattle.std.specs.Prelude.{◌≡◌, [], ℕ};
-ghost use Rattle.kinds.specs.Lent.{lent, lent_five, host_of, no_host};
+ghost use Rattle.kinds.specs.Lent.{lent, lent_five, lent_by, no_host};
 ghost use Rattle.kinds.specs.Layout.{view, lay};
 ghost use Rattle.calls.specs.Call.{add_clause, set_tier, delete, five_lists, five_lists_record_host};
 ghost use Rattle.calls.specs.Adding.{added_long, tier_set, deleted};
 ghost use Rattle.calls.specs.Outcome.{judged, own_number};
 
-use kinds::{ClauseRef, State};
+use kinds::{ClauseRef, HostSide, State};
 
 // `add_clause`: the words behind the used ones, one more entry of the clause list and of the tier's list, one more of its tier.
 pub fn append_clause(
@@ -29,25 +30,18 @@ pub fn append_clause(
         ≡ lay five_lists (lent_five s words.old clauses.old irred.old core.old mid.old local.old no_host)
         (added_long tier glue lits.now (view (lent_five s words.old clauses.old irred.old core.old mid.old local.old no_host))) }
 {
-    let used = s.words;
-    let n = s.clauses;
-    let lens = s.tiers;
+    let offset = s.words as u32;
+    alloc::add_clause(words, s.words, tier as u32, glue, lits);
+    clauses[s.clauses] = offset;
+    let tiers = tier_lists::push(irred, core, mid, local, s.tiers, tier, offset);
     let mut counts = s.counts;
-    let activity = s.activity;
-    alloc::add_clause(words, used, tier as u32, glue, lits);
-    clauses[n] = used as u32;
-    let tiers = tier_lists::push(irred, core, mid, local, lens, tier, used as u32);
-    counts[tier] = counts[tier] + 1;
+    counts[tier] += 1;
     State {
-        vars: s.vars,
-        words: used + (lits.len() + 3),
-        clauses: n + 1,
-        tiers: tiers,
-        recorded: s.recorded,
-        counts: counts,
-        garbage: s.garbage,
-        binary: s.binary,
-        activity: activity,
+        words: s.words + (lits.len() + 3),
+        clauses: s.clauses + 1,
+        tiers,
+        counts,
+        ..s
     }
 }
 
@@ -69,31 +63,18 @@ pub fn change_tier(
         ≡ lay five_lists (lent_five s words.old clauses.old irred.old core.old mid.old local.old no_host)
         (tier_set tier cref.0 (view (lent_five s words.old clauses.old irred.old core.old mid.old local.old no_host))) }
 {
-    let offset = cref.0;
-    let place = offset as usize + 1;
+    let place = cref.0 as usize + 1;
     let head = words[place];
     let old = header::tier_of(head) as usize;
     if old == tier {
         return s;
     }
     words[place] = header::with_tier(head, tier as u32);
-    let lens = s.tiers;
+    let tiers = tier_lists::push(irred, core, mid, local, s.tiers, tier, cref.0);
     let mut counts = s.counts;
-    let activity = s.activity;
-    let tiers = tier_lists::push(irred, core, mid, local, lens, tier, offset);
-    counts[old] = counts[old] - 1;
-    counts[tier] = counts[tier] + 1;
-    State {
-        vars: s.vars,
-        words: s.words,
-        clauses: s.clauses,
-        tiers: tiers,
-        recorded: s.recorded,
-        counts: counts,
-        garbage: s.garbage,
-        binary: s.binary,
-        activity: activity,
-    }
+    counts[old] -= 1;
+    counts[tier] += 1;
+    State { tiers, counts, ..s }
 }
 
 // `try_delete_clause`, "which also records the strike": the line, the deleted bit, one less of its tier, garbage.
@@ -106,41 +87,27 @@ pub fn strike_clause(
     mid: &mut [u32],
     local: &mut [u32],
     rec: &mut [u32],
-    values: &[u8],
-    kinds: &[u8],
-    reasons: &[u32],
-    levels: &[u32],
-    trail: &[u32],
-    assigned: usize,
-    level: usize,
+    host: HostSide<'_>,
     cref: ClauseRef,
 ) -> State
-    requires level_value { judged five_lists_record_host (lent s words.old clauses.old irred.old core.old mid.old local.old [] [] rec.old (host_of values.now kinds.now reasons.now levels.now trail.now assigned level)) ≡ 0 }
-    requires level_value_2 { own_number (delete cref.0) (lent s words.old clauses.old irred.old core.old mid.old local.old [] [] rec.old (host_of values.now kinds.now reasons.now levels.now trail.now assigned level)) ≡ 0 }
-    ensures { lent result words.new clauses.new irred.new core.new mid.new local.new [] [] rec.new (host_of values.now kinds.now reasons.now levels.now trail.now assigned level)
-        ≡ lay five_lists_record_host (lent s words.old clauses.old irred.old core.old mid.old local.old [] [] rec.old (host_of values.now kinds.now reasons.now levels.now trail.now assigned level))
-        (deleted cref.0 (view (lent s words.old clauses.old irred.old core.old mid.old local.old [] [] rec.old (host_of values.now kinds.now reasons.now levels.now trail.now assigned level)))) }
+    requires level_value { judged five_lists_record_host (lent s words.old clauses.old irred.old core.old mid.old local.old [] [] rec.old (lent_by host)) ≡ 0 }
+    requires level_value_2 { own_number (delete cref.0) (lent s words.old clauses.old irred.old core.old mid.old local.old [] [] rec.old (lent_by host)) ≡ 0 }
+    ensures { lent result words.new clauses.new irred.new core.new mid.new local.new [] [] rec.new (lent_by host.entry)
+        ≡ lay five_lists_record_host (lent s words.old clauses.old irred.old core.old mid.old local.old [] [] rec.old (lent_by host.entry))
+        (deleted cref.0 (view (lent s words.old clauses.old irred.old core.old mid.old local.old [] [] rec.old (lent_by host.entry)))) }
 {
     let offset = cref.0 as usize;
-    let used = s.recorded;
-    let recorded = record::strike(words, offset, rec, used, 4);
+    let recorded = record::strike(words, offset, rec, s.recorded, 4);
     let head = words[offset + 1];
-    let len = buffers::word(words, offset + 2);
+    let len = words[offset + 2] as usize;
     let tier = header::tier_of(head) as usize;
     words[offset + 1] = header::with_deleted(head, true);
-    let lens = s.tiers;
     let mut counts = s.counts;
-    let activity = s.activity;
-    counts[tier] = counts[tier] - 1;
+    counts[tier] -= 1;
     State {
-        vars: s.vars,
-        words: s.words,
-        clauses: s.clauses,
-        tiers: lens,
-        recorded: recorded,
-        counts: counts,
+        recorded,
+        counts,
         garbage: s.garbage + (len + 3),
-        binary: s.binary,
-        activity: activity,
+        ..s
     }
 }

@@ -7,8 +7,8 @@ use native.Mathlib.Decide.{ℕ_discrete}
 use native.Mathlib.Numerals.{add-one}
 use native.Mathlib.Omega.{arith}
 use lib.Dec.{eqb}
-use lib.ListN.{length, get_or, set, take, drop, length-set}
-use lib.Seq.{get_or-take, get_or-set_same, get_or-set_other, length-take-le, take-suc-set, drop-set-lt, ext_get_or}
+use lib.ListN.{length, get_or, set, take, drop, length-set, drop_of_length-le}
+use lib.Seq.{drop-cons, get_or-set_same, get_or-set_other, take-suc-set, drop-set-lt, ext_get_or}
 use borrow.Author.Tests.{eq-eqb, ne_eqb, eqb-true, eqb-false}
 use Rattle.laws.specs.Fold.{fold_list}
 use Rattle.laws.specs.Lists.{elem, snoc}
@@ -17,11 +17,11 @@ use Rattle.laws.proofs.Sorting.{count_nil, count_cons, count_append, count_at, i
 use Rattle.laws.proofs.Folds.{or_left, or_right, or_neither}
 use Rattle.laws.proofs.Entries.{elem_counted}
 use Rattle.laws.proofs.Tables.{count_in}
-use Rattle.laws.proofs.Walks.{drop_more, at_more, left_next, left_none, walk_next, walk_none, count_split}
-use Rattle.kinds.specs.Header.{tier_of, deleted_of, mark_of, with_mark}
+use Rattle.laws.proofs.Walks.{drop_more, at_more, walk_next, walk_none, count_split}
+use Rattle.kinds.specs.Header.{deleted_of, with_mark}
 use Rattle.kinds.specs.Clauses.{head_at, tier_at, deleted_at}
 use Rattle.calls.specs.Reducing.{stale, kept_first}
-use Rattle.dedup.specs.Marks.{Entry, Entries, Marked, Unmarkable, Kept}
+use Rattle.dedup.specs.Marks.{Entry, Entries, Marked, Unmarkable}
 
 count_snoc : (v r : ℕ) (l : List ℕ) → count v (l ++ r ∷ []) ≡ count v l + is r v
 count_snoc v r l = omega (arith, count_append v l (r ∷ []), count_cons v r [], count_nil v)
@@ -85,40 +85,6 @@ drops ws t seen r s f = ap (λ (b : Bool). cond b seen (snoc seen r)) (go (ℕ_d
     go (yes p) (no q) = or_right (stale ws t r) _ (is_seen r seen q)
     go (no p) q = or_left _ _ (stale_high ws t r s p)
 
--- the code's tests on word 1
-pub out_deleted : (w t : ℕ) → t < 4 → {b : Bool} → b ≡ eqb (deleted_of w) 1 → b ≡ true → false ≡ eqb (w % 16) t
-out_deleted w t s e y = let d = eqb-true (deleted_of w) 1 (sym e ∙ y) in sym (ne_eqb (w % 16) t (λ q. omega arith))
-
-pub out_marked : (w t : ℕ) → t < 4 → {b : Bool} → b ≡ eqb (mark_of w) 1 → b ≡ true → false ≡ eqb (w % 16) t
-out_marked w t s e y = let d = eqb-true (mark_of w) 1 (sym e ∙ y) in sym (ne_eqb (w % 16) t (λ q. omega arith))
-
--- the low four bits, from the top
-low_four : (w : ℕ) → w % 16 ≡ w % 8 + 8 * (w / 8 % 2)
-low_four w = omega arith
-
-low_three : (w : ℕ) → w % 8 ≡ w % 4 + 4 * (w / 4 % 2)
-low_three w = omega arith
-
-no_bit : (x : ℕ) → (x % 2 ≡ 1 → ⊥) → x % 2 ≡ 0
-no_bit x n = go (ℕ_discrete (x % 2) 0)
-  where
-    go : Dec (x % 2 ≡ 0) → x % 2 ≡ 0
-    go (yes e) = e
-    go (no e) = absurd (n (omega (arith, e)))
-
-low_tier : (w : ℕ) → w / 4 % 2 ≡ 0 → w / 8 % 2 ≡ 0 → w % 16 ≡ w % 4
-low_tier w a b = low_four w ∙ ap₂ (λ (x y : ℕ). x + 8 * y) (low_three w ∙ ap (λ (x : ℕ). w % 4 + 4 * x) a) b ∙ plain (w % 4)
-  where
-    plain : (x : ℕ) → x + 4 * 0 + 8 * 0 ≡ x
-    plain x = omega arith
-
-pub in_tier_low : (w t : ℕ) → t < 4 → {b d : Bool} → b ≡ eqb (deleted_of w) 1 → b ≡ false → d ≡ eqb (mark_of w) 1 → d ≡ false → {u : ℕ} → u ≡ tier_of w → eqb u t ≡ eqb (w % 16) t
-in_tier_low w t s e y f z q =
-    let a : w / 4 % 2 ≡ 0 = no_bit (w / 4) (eqb-false (deleted_of w) 1 (sym e ∙ y)) in
-    let b : w / 8 % 2 ≡ 0 = no_bit (w / 8) (eqb-false (mark_of w) 1 (sym f ∙ z)) in
-    let g : tier_of w ≡ w % 4 = omega arith in
-    ap (λ (x : ℕ). eqb x t) (q ∙ g ∙ sym (low_tier w a b))
-
 -- the mark set where it was not, and taken away where it was
 marks : (w t : ℕ) → t < 4 → w % 16 ≡ t → with_mark true w ≡ w + 8
 marks w t h e = omega arith
@@ -126,21 +92,19 @@ marks w t h e = omega arith
 pub unmarks : (w : ℕ) → w / 8 % 2 ≡ 1 → with_mark false w ≡ w - 8
 unmarks w e = omega arith
 
-pub record Marking (n t : ℕ) (ws₀ l₀ ws l : List ℕ) (i k : ℕ) : Type 0 where
-  pub i_le : i ≤ n
+pub record Marking (t : ℕ) (ws₀ l₀ ws l : List ℕ) (i k : ℕ) : Type 0 where
   pub k_le : k ≤ i
   pub w_len : length ws ≡ length ws₀
   pub l_len : length l ≡ length l₀
   pub l_rest : drop i l ≡ drop i l₀
-  pub done : fold_list (kept_first ws₀ t) (take k l) (drop i (take n l₀)) ≡ fold_list (kept_first ws₀ t) [] (take n l₀)
+  pub done : fold_list (kept_first ws₀ t) (take k l) (drop i l₀) ≡ fold_list (kept_first ws₀ t) [] l₀
   pub marked : Marked (take k l) ws₀ ws
   pub once : (r : ℕ) → count r (take k l) ≤ 1
   pub within : (r : ℕ) → 0 < count r (take k l) → r + 1 < length ws₀
   pub bit : (r : ℕ) → 0 < count r (take k l) → get_or ws (r + 1) 0 / 8 % 2 ≡ 1
 
-pub mark_start : (n t : ℕ) (ws l : List ℕ) → Marking n t ws l ws l 0 0
-mark_start n t ws l = record {
-  i_le = omega arith;
+pub mark_start : (t : ℕ) (ws l : List ℕ) → Marking t ws l ws l 0 0
+mark_start t ws l = record {
   k_le = omega arith;
   w_len = refl;
   l_len = refl;
@@ -152,25 +116,37 @@ mark_start n t ws l = record {
   bit = λ r p. absurd (omega (arith, count_nil r));
 }
 
-module _ (n t : ℕ) (ws₀ l₀ ws l : List ℕ) (i k : ℕ) (small : t < 4) (fit : n ≤ length l₀) (E : Entries ws₀ t (take n l₀)) (I : Marking n t ws₀ l₀ ws l i k) (lt : i < n) where
+module _ (t : ℕ) (ws₀ l₀ ws l : List ℕ) (i k : ℕ) (small : t < 4) (E : Entries ws₀ t l₀) (I : Marking t ws₀ l₀ ws l i k) (lt : i < length l₀) where
   abbrev r : ℕ
   r = get_or l i 0
 
-  abbrev more : List ℕ
-  more = drop (i + 1) (take n l₀)
+  same : get_or l₀ i 0 ≡ r
+  same = sym (at_more i i l l₀ (omega arith) I.l_rest)
 
-  next : drop i (take n l₀) ≡ r ∷ more
-  next = left_next l₀ n i lt fit ∙ ap (λ (x : ℕ). x ∷ more) (sym (at_more i i l l₀ (omega arith) I.l_rest))
+  next : drop i l₀ ≡ r ∷ drop (i + 1) l₀
+  next = rw (add-one, ← same, drop-cons l₀ i 0 lt)
 
-  pub entry : Entry ws₀ t r
-  entry = subst (Entry ws₀ t) (get_or-take n l₀ i 0 lt ∙ sym (at_more i i l l₀ (omega arith) I.l_rest)) (E i (omega (arith, length-take-le n l₀ fit)))
+  entry : Entry ws₀ t r
+  entry = subst (Entry ws₀ t) same (E i lt)
 
-  module _ (low : get_or ws (r + 1) 0 % 16 ≡ t) where
+  pub in_words : r + 1 < length ws
+  in_words = omega (arith, entry.within, I.w_len)
+
+  done_with : (kept : List ℕ) → kept ≡ kept_first ws₀ t (take k l) r → fold_list (kept_first ws₀ t) kept (drop (i + 1) l₀) ≡ fold_list (kept_first ws₀ t) [] l₀
+  done_with kept e =
+      ap (λ (x : List ℕ). fold_list (kept_first ws₀ t) x (drop (i + 1) l₀)) e
+      ∙ sym (ap (fold_list (kept_first ws₀ t) (take k l)) next ∙ walk_next (kept_first ws₀ t) (take k l) r (drop (i + 1) l₀))
+      ∙ I.done
+
+  module _ (kept : eqb (get_or ws (r + 1) 0 % 16) t ≡ true) where
+    low : get_or ws (r + 1) 0 % 16 ≡ t
+    low = eqb-true _ t kept
+
     in_tier : get_or ws₀ (r + 1) 0 % 8 ≡ t
-    in_tier = omega (arith, I.marked.rest r)
+    in_tier = omega (arith, I.marked.rest r, low)
 
-    pub new : count r (take k l) ≡ 0
-    new = omega (arith, I.marked.rest r, I.once r, entry.plain in_tier)
+    new : count r (take k l) ≡ 0
+    new = omega (arith, low, I.marked.rest r, I.once r, entry.plain in_tier)
 
     longer : take (k + 1) (set l k r) ≡ take k l ++ r ∷ []
     longer = ap (λ (m : ℕ). take m (set l k r)) (add-one k) ∙ take-suc-set l k r (omega (arith, I.k_le, I.l_len))
@@ -184,104 +160,84 @@ module _ (n t : ℕ) (ws₀ l₀ ws l : List ℕ) (i k : ℕ) (small : t < 4) (f
     within_more v (no d) p = I.within v (omega (arith, count_snoc v r (take k l), is_other r v d))
 
     bit_more : (v : ℕ) → Dec (r ≡ v) → 0 < count v (take k l ++ r ∷ []) → get_or (set ws (r + 1) (get_or ws (r + 1) 0 + 8)) (v + 1) 0 / 8 % 2 ≡ 1
-    bit_more v (yes e) p = let z = set_same ws r (get_or ws (r + 1) 0 + 8) v (omega (arith, entry.within, I.w_len)) (sym e) in omega arith
+    bit_more v (yes e) p = let z = set_same ws r (get_or ws (r + 1) 0 + 8) v (omega (arith, entry.within, I.w_len)) (sym e) in omega (arith, low)
     bit_more v (no d) p = let z = set_other ws r (get_or ws (r + 1) 0 + 8) v (λ q. d (sym q)) in let y = I.bit v (omega (arith, count_snoc v r (take k l), is_other r v d)) in omega arith
 
-    kept_turn : Marking n t ws₀ l₀ (set ws (r + 1) (get_or ws (r + 1) 0 + 8)) (set l k r) (i + 1) (k + 1)
-    kept_turn = record {
-      i_le = omega arith;
+    pub mark_keep : (w : ℕ) → w ≡ with_mark true (get_or ws (r + 1) 0) → Marking t ws₀ l₀ (set ws (r + 1) w) (set l k r) (i + 1) (k + 1)
+    mark_keep w e = rw (e, marks (get_or ws (r + 1) 0) t small low) (record {
       k_le = omega (arith, I.k_le);
       w_len = length-set ws (r + 1) (get_or ws (r + 1) 0 + 8) ∙ I.w_len;
       l_len = length-set l k r ∙ I.l_len;
       l_rest = drop-set-lt (i + 1) l k r (omega (arith, I.k_le)) ∙ drop_more i (i + 1) l l₀ (omega arith) I.l_rest;
-      done =
-          ap (λ (x : List ℕ). fold_list (kept_first ws₀ t) x more) (longer ∙ sym (keeps ws₀ t (take k l) r small in_tier new))
-          ∙ sym (ap (fold_list (kept_first ws₀ t) (take k l)) next ∙ walk_next (kept_first ws₀ t) (take k l) r more)
-          ∙ I.done;
+      done = done_with _ (longer ∙ sym (keeps ws₀ t (take k l) r small in_tier new));
       marked = rw longer (mark_more (take k l) ws₀ ws r I.marked (omega (arith, entry.within, I.w_len)));
       once = λ v. rw longer (once_more v (ℕ_discrete r v));
       within = λ v p. within_more v (ℕ_discrete r v) (rw longer at p);
       bit = λ v p. bit_more v (ℕ_discrete r v) (rw longer at p);
-    }
+    })
 
-    pub mark_keep : Marking n t ws₀ l₀ (set ws (r + 1) (with_mark true (get_or ws (r + 1) 0))) (set l k r) (i + 1) (k + 1)
-    mark_keep = subst (λ (x : ℕ). Marking n t ws₀ l₀ (set ws (r + 1) x) (set l k r) (i + 1) (k + 1)) (sym (marks (get_or ws (r + 1) 0) t small low)) kept_turn
-
-  pub mark_skip : (get_or ws (r + 1) 0 % 16 ≡ t → ⊥) → Marking n t ws₀ l₀ ws l (i + 1) k
+  pub mark_skip : eqb (get_or ws (r + 1) 0 % 16) t ≡ false → Marking t ws₀ l₀ ws l (i + 1) k
   mark_skip high = record {
-    i_le = omega arith;
     k_le = omega (arith, I.k_le);
     w_len = I.w_len;
     l_len = I.l_len;
     l_rest = drop_more i (i + 1) l l₀ (omega arith) I.l_rest;
-    done =
-        ap (λ (x : List ℕ). fold_list (kept_first ws₀ t) x more) (sym (drops ws₀ t (take k l) r small (λ p q. high (omega (arith, I.marked.rest r, entry.plain p)))))
-        ∙ sym (ap (fold_list (kept_first ws₀ t) (take k l)) next ∙ walk_next (kept_first ws₀ t) (take k l) r more)
-        ∙ I.done;
+    done = done_with _ (sym (drops ws₀ t (take k l) r small (λ p q. eqb-false _ t high (omega (arith, I.marked.rest r, entry.plain p)))));
     marked = I.marked;
     once = I.once;
     within = I.within;
     bit = I.bit;
   }
 
-pub mark_end : (n t : ℕ) (ws₀ l₀ ws l : List ℕ) (i k : ℕ) → n ≤ length l₀ → Marking n t ws₀ l₀ ws l i k → n ≤ i → Kept ws₀ t n l₀ l k
-mark_end n t ws₀ l₀ ws l i k fit I end = record {
-  few = let a = I.i_le in let b = I.k_le in omega arith;
-  kept = sym (ap (fold_list (kept_first ws₀ t) (take k l)) (left_none l₀ n i end fit) ∙ walk_none (kept_first ws₀ t) (take k l)) ∙ I.done;
-  rest = drop_more i n l l₀ I.i_le I.l_rest;
-}
+pub mark_end : (t : ℕ) (ws₀ l₀ ws l : List ℕ) (i k : ℕ) → Marking t ws₀ l₀ ws l i k → length l₀ ≤ i → take k l ≡ fold_list (kept_first ws₀ t) [] l₀
+mark_end t ws₀ l₀ ws l i k I end = sym (ap (fold_list (kept_first ws₀ t) (take k l)) (drop_of_length-le l₀ {i = i} end) ∙ walk_none (kept_first ws₀ t) (take k l)) ∙ I.done
 
-pub mark_after : (n t : ℕ) (ws₀ l₀ ws l : List ℕ) (i k : ℕ) → Marking n t ws₀ l₀ ws l i k → Unmarkable (take k l) ws
-mark_after n t ws₀ l₀ ws l i k I = record {
+pub mark_after : (t : ℕ) (ws₀ l₀ ws l : List ℕ) (i k : ℕ) → Marking t ws₀ l₀ ws l i k → Unmarkable (take k l) ws
+mark_after t ws₀ l₀ ws l i k I = record {
   within = λ j h. omega (arith, I.within (get_or (take k l) j 0) (count_at (take k l) j h), I.w_len);
   set = λ r p. I.bit r p;
   once = I.once;
 }
 
 -- taking the marks away
-pub record Unmarking (l W : List ℕ) (k : ℕ) (ws : List ℕ) (i : ℕ) : Type 0 where
-  pub le : i ≤ k
+pub record Unmarking (l W ws : List ℕ) (i : ℕ) : Type 0 where
   pub len : length ws ≡ length W
   pub first : get_or ws 0 0 ≡ get_or W 0 0
-  pub rest : (r : ℕ) → get_or ws (r + 1) 0 + 8 * count r (take k l) ≡ get_or W (r + 1) 0 + 8 * count r (drop i (take k l))
+  pub rest : (r : ℕ) → get_or ws (r + 1) 0 + 8 * count r l ≡ get_or W (r + 1) 0 + 8 * count r (drop i l)
 
-module _ (l W : List ℕ) (k : ℕ) (ws : List ℕ) (i : ℕ) (fit : k ≤ length l) (U : Unmarkable (take k l) W) (I : Unmarking l W k ws i) (lt : i < k) where
+module _ (l W ws : List ℕ) (i : ℕ) (U : Unmarkable l W) (I : Unmarking l W ws i) (lt : i < length l) where
   abbrev at : ℕ
   at = get_or l i 0
 
-  left : (v : ℕ) → count v (drop i (take k l)) ≡ is at v + count v (drop (i + 1) (take k l))
-  left v = ap (count v) (left_next l k i lt fit) ∙ count_cons v at (drop (i + 1) (take k l))
+  left : (v : ℕ) → count v (drop i l) ≡ is at v + count v (drop (i + 1) l)
+  left v = rw (add-one, drop-cons l i 0 lt) (count_cons v at (drop (suc i) l))
 
   pub at_within : at + 1 < length ws
-  at_within = omega (arith, U.within i (omega (arith, length-take-le k l fit)), ap (λ (x : ℕ). x) (get_or-take k l i 0 lt), I.len)
+  at_within = omega (arith, U.within i lt, I.len)
 
   -- its mark is still there
   pub at_marked : get_or ws (at + 1) 0 / 8 % 2 ≡ 1
   at_marked =
-      let one : 0 < count at (take k l) = omega (arith, count_split at i (take k l), left at, is_same at at refl) in
+      let one : 0 < count at l = omega (arith, count_split at i l, left at, is_same at at refl) in
       let bit = U.set at one in
-      let same : get_or ws (at + 1) 0 ≡ get_or W (at + 1) 0 = omega (arith, I.rest at, U.once at, count_split at i (take k l), left at, is_same at at refl) in
+      let same : get_or ws (at + 1) 0 ≡ get_or W (at + 1) 0 = omega (arith, I.rest at, U.once at, count_split at i l, left at, is_same at at refl) in
       omega arith
 
-  turned : Unmarking l W k (set ws (at + 1) (get_or ws (at + 1) 0 - 8)) (i + 1)
-  turned = record {
-    le = omega arith;
+  pub unmark_step : (w : ℕ) → w ≡ with_mark false (get_or ws (at + 1) 0) → Unmarking l W (set ws (at + 1) w) (i + 1)
+  unmark_step w e = rw (e, unmarks (get_or ws (at + 1) 0) at_marked) (record {
     len = length-set ws (at + 1) (get_or ws (at + 1) 0 - 8) ∙ I.len;
     first = set_first ws at (get_or ws (at + 1) 0 - 8) ∙ I.first;
     rest = λ v. go v (ℕ_discrete v at);
-  }
+  })
     where
-      go : (v : ℕ) → Dec (v ≡ at) → get_or (set ws (at + 1) (get_or ws (at + 1) 0 - 8)) (v + 1) 0 + 8 * count v (take k l) ≡ get_or W (v + 1) 0 + 8 * count v (drop (i + 1) (take k l))
+      go : (v : ℕ) → Dec (v ≡ at) → get_or (set ws (at + 1) (get_or ws (at + 1) 0 - 8)) (v + 1) 0 + 8 * count v l ≡ get_or W (v + 1) 0 + 8 * count v (drop (i + 1) l)
       go v (yes e) = omega (arith, set_same ws at (get_or ws (at + 1) 0 - 8) v at_within e, I.rest v, left v, is_same at v (sym e), at_marked, ap (λ (x : ℕ). get_or ws (x + 1) 0) e)
       go v (no n) = omega (arith, set_other ws at (get_or ws (at + 1) 0 - 8) v n, I.rest v, left v, is_other at v (λ q. n (sym q)))
 
-  pub unmark_step : Unmarking l W k (set ws (at + 1) (with_mark false (get_or ws (at + 1) 0))) (i + 1)
-  unmark_step = subst (λ (x : ℕ). Unmarking l W k (set ws (at + 1) x) (i + 1)) (sym (unmarks (get_or ws (at + 1) 0) at_marked)) turned
-
-pub unmark_end : (l W : List ℕ) (k : ℕ) (ws : List ℕ) (i : ℕ) → k ≤ length l → Unmarking l W k ws i → k ≤ i → Marked (take k l) ws W
-unmark_end l W k ws i fit I end = record {
+pub unmark_end : (l W ws : List ℕ) (i : ℕ) → Unmarking l W ws i → length l ≤ i → Marked l ws W
+unmark_end l W ws i I end = record {
   first = sym I.first;
-  rest = λ r. omega (arith, I.rest r, ap (count r) (left_none l k i end fit), count_nil r);
+  rest = λ r. omega (arith, I.rest r, ap (count r) (drop_of_length-le l {i = i} end), count_nil r);
 }
 
 -- two lists that give one by the same marks are equal

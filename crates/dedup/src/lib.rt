@@ -2,6 +2,8 @@
 #![tactic(auto)]
 
 ghost use Rattle.std.specs.Prelude.{◌≡◌, List, [], ◌++◌, ℕ, ◌+◌, ◌%◌, ◌<◌, ◌≤◌, eqb, length, take, drop};
+ghost use Rattle.laws.specs.Fold.{fold_list};
+ghost use Rattle.calls.specs.Reducing.{kept_first};
 ghost use Rattle.dedup.specs.Marks.{Entries, Marked, Unmarkable, Kept};
 
 // Word 1 of a clause of the tier that is neither deleted nor marked.
@@ -9,29 +11,21 @@ fn retained(head: u32, tier: u32) -> bool
     requires { tier < 4 }
     ensures { result ≡ eqb (head % 16) tier }
 {
-    if header::deleted_of(head) {
-        return false;
-    }
-    if header::mark_of(head) {
-        return false;
-    }
-    header::tier_of(head) == tier
+    !header::deleted_of(head) && !header::mark_of(head) && header::tier_of(head) == tier
 }
 
 // Keeps the first of each entry of the tier at the front, and marks them.
-fn mark(words: &mut [u32], list: &mut [u32], n: usize, tier: u32) -> usize
-    requires n_in_bounds { n ≤ length list.old }
+fn mark(words: &mut [u32], list: &mut [u32], tier: u32) -> usize
     requires tier_bound { tier < 4 }
-    requires entries { Entries words.old tier (take n list.old) }
-    ensures kept { Kept words.old tier n list.old list.new result }
+    requires entries { Entries words.old tier list.old }
+    ensures few { result ≤ length list.old }
+    ensures kept { take result list.new ≡ fold_list (kept_first words.old tier) [] list.old }
     ensures marked { Marked (take result list.new) words.old words.new }
     ensures unmarkable { Unmarkable (take result list.new) words.new }
 {
-    let mut i = 0;
     let mut k = 0;
-    while i < n {
+    for i in 0..list.len() {
         let r = list[i];
-        i += 1;
         let at = r as usize + 1;
         let head = words[at];
         if retained(head, tier) {
@@ -44,17 +38,13 @@ fn mark(words: &mut [u32], list: &mut [u32], n: usize, tier: u32) -> usize
 }
 
 // Takes the marks away again.
-fn unmark(words: &mut [u32], list: &[u32], k: usize)
-    requires k_in_bounds { k ≤ length list.now }
-    requires unmarkable { Unmarkable (take k list.now) words.old }
-    ensures { Marked (take k list.now) words.new words.old }
+fn unmark(words: &mut [u32], list: &[u32])
+    requires { Unmarkable list.now words.old }
+    ensures { Marked list.now words.new words.old }
 {
-    let mut i = 0;
-    while i < k {
-        let at = list[i] as usize + 1;
-        let head = words[at];
-        words[at] = header::with_mark(head, false);
-        i += 1;
+    for r in list {
+        let at = *r as usize + 1;
+        words[at] = header::with_mark(words[at], false);
     }
 }
 
@@ -67,7 +57,7 @@ pub fn clean(words: &mut [u32], list: &mut [u32], n: usize, tier: u32) -> usize
     ensures kept { Kept words.old tier n list.old list.new result }
     ensures words_unchanged { words.new ≡ words.old }
 {
-    let k = mark(words, list, n, tier);
-    unmark(words, list, k);
+    let k = mark(words, &mut list[..n], tier);
+    unmark(words, &list[..k]);
     k
 }

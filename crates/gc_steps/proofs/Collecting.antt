@@ -2,7 +2,7 @@
 use mathlib.Core.Path.{◌≡◌, refl, sym, ap, ap₂, ◌∙◌, subst}
 use mathlib.Core.Bool.{Bool, true, false, cond}
 use mathlib.Core.List.{List, []}
-use Prim.Native.Nat.{ℕ, zero, suc, ◌+◌, ◌-◌, ◌*◌, ◌^◌, ◌≤◌, ◌<◌}
+use Prim.Native.Nat.{ℕ, zero, suc, ◌+◌, ◌*◌, ◌^◌, ◌≤◌, ◌<◌}
 use native.Mathlib.Omega.{arith}
 use lib.ListN.{length, take}
 use lib.Seq.{length-take-le}
@@ -150,8 +150,6 @@ module _ (s : State) (words clauses irred core mid local : List ℕ) (host : Hos
     unfolding view closed_up
     closed_fit =
         let r = collect_ready in
-        let a = r.used in
-        let b = r.listed in
         fits_of (closed_up h) (let e = used_fewer in omega arith) (let e = new_fewer in omega arith)
         (λ t q. let e : length (list_at (by_tier u new) t) ≡ length (of_tier u t new) = ap length (by_tier_lem u new t q) in let f = tier_few t q in let g = r.tiers t q in omega arith)
 

@@ -30,7 +30,7 @@ use Rattle.close_up.proofs.Redirecting.{length_redirected, all_live, all_deleted
 pub laid_in : (ws : List ℕ) (used lo : ℕ) (os : List ℕ) → Laid ws used lo os → (o : ℕ) → In o os → lo ≤ o
 unfolding Laid
 laid_in ws used lo [] l o m = absurd (elem_none o m)
-laid_in ws used lo (x ∷ os) l o m = ⊎_elim (λ e. let z = l.0 in omega arith) (λ q. let z = l.0 in let y = laid_in ws used (end_at ws x) os l.1 o q in omega arith) (elem_cases o x os m)
+laid_in ws used lo (x ∷ os) l o m = ⊎_elim (λ e. let z = l.0 in omega arith) (λ q. let y = laid_in ws used (end_at ws x) os l.1 o q in omega arith) (elem_cases o x os m)
 
 -- ---- by clauses
 
@@ -127,7 +127,7 @@ module _ (w values kinds : List ℕ) where
     all_on lo p (o ∷ os) rs l h m e k =
         go (ℕ_discrete o r) (deleted_at w o) refl
         (λ i. all_on (end_at w o) p os rs l.1 (let v = l.0 in omega arith) i e k)
-        (λ i f. all_on (end_at w o) (p + size_at w o) os (redirected values kinds rs (first_at w o) o p) l.1 (let v = l.0 in omega arith) i f (let y = length_redirected values kinds rs (first_at w o) o p in omega arith))
+        (λ i f. all_on (end_at w o) (p + size_at w o) os (redirected values kinds rs (first_at w o) o p) l.1 (omega arith) i f (let y = length_redirected values kinds rs (first_at w o) o p in omega arith))
       where
         first : at (redirected values kinds rs (first_at w r) r p) x ≡ p
         first = redirected_on rs (first_at w r) r p yes_true long e k
@@ -148,7 +148,7 @@ module _ (w values kinds : List ℕ) where
         go (yes z) b q i j = here
             (ap (λ (t : List ℕ). at t x) (all_live w values kinds p r os rs live)
             ∙ all_off x (p + size_at w r) os (redirected values kinds rs (first_at w r) r p)
-            (λ y u a c d f. let g = laid_in w used (end_at w o) os l.1 y u in let v = l.0 in let j : p ≡ y = sym first ∙ f in omega arith)
+            (λ y u a c d f. let g = laid_in w used (end_at w o) os l.1 y u in let j : p ≡ y = sym first ∙ f in omega arith)
             ∙ first) z
         go (no n) true q i j = ap (λ (t : List ℕ). at t x) (all_deleted w values kinds p o os rs q) ∙ i (later n) ∙ sym (place_skip p o os r q)
         go (no n) false q i j = ap (λ (t : List ℕ). at t x) (all_live w values kinds p o os rs q) ∙ j (later n) (kept n ∙ e) ∙ sym (place_later p o os r q n)

@@ -1,23 +1,18 @@
 // The step of gc.rs, on what is lent. It stands on what the judging has established; a collection never lacks room.
+// The store's buffers are slices beside the state, each a parameter: "a state by value, slices beside it" (docs/01-scope.md, What must change shape).
 #![tactic(auto)]
 
 ghost use Rattle.std.specs.Prelude.{◌≡◌, [], ℕ, ◌+◌, ◌≤◌, ◌<◌, length, take};
 ghost use Rattle.laws.specs.Lists.{at, list_at, lengths, fill_each};
-ghost use Rattle.kinds.specs.Lent.{lent_five, host_of};
+ghost use Rattle.kinds.specs.Lent.{lent_five, host_of, lent_by};
 ghost use Rattle.kinds.specs.Layout.{view, lay};
 ghost use Rattle.calls.specs.Call.{collect, five_lists_host};
 ghost use Rattle.calls.specs.Collecting.{due, of_tier, by_tier, collected};
 ghost use Rattle.calls.specs.Outcome.{judged, own_number};
+ghost use Rattle.calls.specs.Answers.{number_of};
 ghost use Rattle.tier_lists.specs.Four.{four};
 
-use kinds::State;
-
-// The state, and whether a collection was due: "rebuild them".
-#[derive(Clone, Copy)]
-pub struct Collected {
-    pub state: State,
-    pub due: bool,
-}
+use kinds::{Changed, HostSide, Refusal, State};
 
 // "tier lists are rebuilt in that order". Returns the used lengths.
 fn rebuild_tiers(
@@ -52,18 +47,12 @@ pub fn refuse_collect(
     core: &[u32],
     mid: &[u32],
     local: &[u32],
-    values: &[u8],
-    kinds: &[u8],
-    reasons: &[u32],
-    levels: &[u32],
-    trail: &[u32],
-    assigned: usize,
-    level: usize,
-) -> usize
-    requires { judged five_lists_host (lent_five s words.now clauses.now irred.now core.now mid.now local.now (host_of values.now kinds.now reasons.now levels.now trail.now assigned level)) ≡ 0 }
-    ensures { result ≡ own_number collect (lent_five s words.now clauses.now irred.now core.now mid.now local.now (host_of values.now kinds.now reasons.now levels.now trail.now assigned level)) }
+    host: HostSide<'_>,
+) -> Result<(), Refusal>
+    requires { judged five_lists_host (lent_five s words.now clauses.now irred.now core.now mid.now local.now (lent_by host)) ≡ 0 }
+    ensures { number_of result ≡ own_number collect (lent_five s words.now clauses.now irred.now core.now mid.now local.now (lent_by host.entry)) }
 {
-    0
+    Ok(())
 }
 
 // `collect_garbage`: "Collects if garbage times 2 exceeds the used length."
@@ -82,44 +71,44 @@ pub fn collect(
     trail: &[u32],
     assigned: usize,
     level: usize,
-) -> Collected
+) -> Changed
     requires level_value { judged five_lists_host (lent_five s words.old clauses.old irred.old core.old mid.old local.old (host_of values.now kinds.now reasons.old levels.now trail.now assigned level)) ≡ 0 }
     requires level_value_2 { own_number collect (lent_five s words.old clauses.old irred.old core.old mid.old local.old (host_of values.now kinds.now reasons.old levels.now trail.now assigned level)) ≡ 0 }
     ensures { (lent_five result.state words.new clauses.new irred.new core.new mid.new local.new (host_of values.now kinds.now reasons.new levels.now trail.now assigned level)
         ≡ lay five_lists_host (lent_five s words.old clauses.old irred.old core.old mid.old local.old (host_of values.now kinds.now reasons.old levels.now trail.now assigned level))
         (collected (view (lent_five s words.old clauses.old irred.old core.old mid.old local.old (host_of values.now kinds.now reasons.old levels.now trail.now assigned level)))))
-        × (result.due ≡ due (view (lent_five s words.old clauses.old irred.old core.old mid.old local.old (host_of values.now kinds.now reasons.old levels.now trail.now assigned level)))) }
+        × (result.rebuild ≡ due (view (lent_five s words.old clauses.old irred.old core.old mid.old local.old (host_of values.now kinds.now reasons.old levels.now trail.now assigned level)))) }
 {
     let used = s.words;
     let n = s.clauses;
     if s.garbage * 2 <= used {
-        return Collected {
+        return Changed {
+            rebuild: false,
             state: s,
-            due: false,
         };
     }
-    let lens = s.tiers;
-    let counts = s.counts;
-    let activity = s.activity;
     close_up::follow(
         s.vars, words, used, clauses, n, values, kinds, reasons, levels,
     );
     let closed = close_up::close_up(words, used, clauses, n);
-    let listed = closed.listed;
-    let tiers = rebuild_tiers(words, clauses, listed, irred, core, mid, local, lens);
-    let state = State {
-        vars: s.vars,
-        words: closed.used,
-        clauses: listed,
-        tiers: tiers,
-        recorded: s.recorded,
-        counts: counts,
-        garbage: 0,
-        binary: s.binary,
-        activity: activity,
-    };
-    Collected {
-        state: state,
-        due: true,
+    let tiers = rebuild_tiers(
+        words,
+        clauses,
+        closed.listed,
+        irred,
+        core,
+        mid,
+        local,
+        s.tiers,
+    );
+    Changed {
+        rebuild: true,
+        state: State {
+            words: closed.used,
+            clauses: closed.listed,
+            tiers,
+            garbage: 0,
+            ..s
+        },
     }
 }

@@ -1,5 +1,5 @@
 -- The fields of word 1 as a table: "tier in bits 0-1 .., deleted bit 2, mark bit 3, glue bits 4-9, active bit 10, rest zero". Field i lies from its start up to the next one's.
-use Rattle.std.specs.Prelude.{Bool, ◌&&◌, List, [], ◌∷◌, ℕ, suc, ◌-◌, leb}
+use Rattle.std.specs.Prelude.{Bool, ◌&&◌, [], ◌∷◌, ℕ, suc, ◌-◌, leb}
 use Rattle.laws.specs.Fold.{all_below}
 use Rattle.laws.specs.Lists.{at}
 

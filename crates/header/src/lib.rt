@@ -76,10 +76,7 @@ pub fn glue_of(word: u32) -> u32
 pub fn saturate(glue: usize) -> u32
     ensures { (result ≡ saturated glue) × (result < 64) }
 {
-    if glue < 63 {
-        return glue as u32;
-    }
-    63
+    glue.min(63) as u32
 }
 
 fn with_glue_bits(word: u32, glue: u32) -> u32
@@ -92,8 +89,7 @@ fn with_glue_bits(word: u32, glue: u32) -> u32
 pub fn with_glue(word: u32, glue: usize) -> u32
     ensures { result ≡ with_glue glue word }
 {
-    let bits = saturate(glue);
-    with_glue_bits(word, bits)
+    with_glue_bits(word, saturate(glue))
 }
 
 pub fn active_of(word: u32) -> bool
@@ -120,8 +116,7 @@ pub fn new_head(tier: u32, glue: usize) -> u32
     requires { tier < 4 }
     ensures { result ≡ new_head tier glue }
 {
-    let glued = with_glue(0, glue);
-    with_tier(glued, tier)
+    with_tier(with_glue(0, glue), tier)
 }
 
 // ---- the header
@@ -145,102 +140,83 @@ impl ClauseHeader {
         self.data[2] as usize
     }
 
-    pub fn set_len(self, len: u32) -> Self
+    pub fn set_len(mut self, len: u32) -> Self
         ensures { result.data ≡ set self.data 2 len }
     {
-        let mut h = self;
-        h.data[2] = len;
-        h
+        self.data[2] = len;
+        self
     }
 
     pub fn deleted(self) -> bool
         ensures { result ≡ eqb (deleted_of (at self.data 1)) 1 }
     {
-        let word = self.data[1];
-        deleted_of(word)
+        deleted_of(self.data[1])
     }
 
-    pub fn set_deleted(self, deleted: bool) -> Self
+    pub fn set_deleted(mut self, deleted: bool) -> Self
         ensures { result.data ≡ set self.data 1 (with_deleted deleted (at self.data 1)) }
     {
-        let mut h = self;
-        let word = h.data[1];
-        h.data[1] = with_deleted(word, deleted);
-        h
+        self.data[1] = with_deleted(self.data[1], deleted);
+        self
     }
 
     pub fn tier(self) -> Tier
         ensures { tier_number result ≡ tier_of (at self.data 1) }
     {
-        let word = self.data[1];
-        let number = tier_of(word);
-        kinds::tier_from(number)
+        kinds::tier_from(tier_of(self.data[1]))
     }
 
-    pub fn set_tier(self, tier: Tier) -> Self
+    pub fn set_tier(mut self, tier: Tier) -> Self
         ensures { result.data ≡ set self.data 1 (with_tier (tier_number tier) (at self.data 1)) }
     {
-        let mut h = self;
-        let word = h.data[1];
-        let number = tier.number();
-        h.data[1] = with_tier(word, number);
-        h
+        self.data[1] = with_tier(self.data[1], tier.number());
+        self
     }
 
     // "Irred and binary clauses are 'original', others redundant."
     pub fn redundant(self) -> bool
         ensures { result ≡ not (eqb (tier_of (at self.data 1)) 0) }
     {
-        let word = self.data[1];
-        tier_of(word) != 0
+        tier_of(self.data[1]) != 0
     }
 
     pub fn mark(self) -> bool
         ensures { result ≡ eqb (mark_of (at self.data 1)) 1 }
     {
-        let word = self.data[1];
-        mark_of(word)
+        mark_of(self.data[1])
     }
 
-    pub fn set_mark(self, mark: bool) -> Self
+    pub fn set_mark(mut self, mark: bool) -> Self
         ensures { result.data ≡ set self.data 1 (with_mark mark (at self.data 1)) }
     {
-        let mut h = self;
-        let word = h.data[1];
-        h.data[1] = with_mark(word, mark);
-        h
+        self.data[1] = with_mark(self.data[1], mark);
+        self
     }
 
     pub fn active(self) -> bool
         ensures { result ≡ eqb (active_of (at self.data 1)) 1 }
     {
-        let word = self.data[1];
-        active_of(word)
+        active_of(self.data[1])
     }
 
-    pub fn set_active(self, active: bool) -> Self
+    pub fn set_active(mut self, active: bool) -> Self
         ensures { result.data ≡ set self.data 1 (with_active active (at self.data 1)) }
     {
-        let mut h = self;
-        let word = h.data[1];
-        h.data[1] = with_active(word, active);
-        h
+        self.data[1] = with_active(self.data[1], active);
+        self
     }
 
     pub fn glue(self) -> usize
         ensures { result ≡ glue_of (at self.data 1) }
     {
-        let word = self.data[1];
-        glue_of(word) as usize
+        glue_of(self.data[1]) as usize
     }
 
-    pub fn set_glue(self, glue: usize) -> Self
+    pub fn set_glue(mut self, glue: usize) -> Self
         ensures { result.data ≡ set self.data 1 (with_glue glue (at self.data 1)) }
     {
-        let mut h = self;
-        let word = h.data[1];
-        h.data[1] = with_glue(word, glue);
-        h
+        self.data[1] = with_glue(self.data[1], glue);
+        self
     }
 
     // The activity's bits are no NaN's: a live clause's are at most the limit's.
@@ -248,18 +224,16 @@ impl ClauseHeader {
         requires { T (not (nan_bits binary32 (at self.data 0))) }
         ensures { result ≡ of_bits binary32 (at self.data 0) }
     {
-        let word = self.data[0];
-        f32::from_bits(word)
+        f32::from_bits(self.data[0])
     }
 
     // Sums of activity and bump are no NaNs: both are finite and not negative.
-    pub fn set_activity(self, activity: f32) -> Self
+    pub fn set_activity(mut self, activity: f32) -> Self
         requires { T (not (is_nan activity)) }
         ensures { result.data ≡ set self.data 0 (to_bits binary32 activity) }
     {
-        let mut h = self;
-        h.data[0] = f32::to_bits(activity);
-        h
+        self.data[0] = activity.to_bits();
+        self
     }
 }
 
@@ -269,11 +243,8 @@ pub fn load(words: &[u32], offset: usize) -> ClauseHeader
     requires { offset + 3 ≤ length words.now }
     ensures { result.data ≡ header_at words.now offset }
 {
-    let activity = words[offset];
-    let head = words[offset + 1];
-    let len = words[offset + 2];
     ClauseHeader {
-        data: [activity, head, len],
+        data: [words[offset], words[offset + 1], words[offset + 2]],
     }
 }
 

@@ -1,27 +1,29 @@
 // The judging: refusals 1, 2 and 3 for each set of parts that a call is lent. The mark bits set on the way are cleared again: every lent word is as it was.
+// The store's buffers are slices beside the state, each a parameter: "a state by value, slices beside it" (docs/01-scope.md, What must change shape).
 #![tactic(auto)]
 
 ghost use Rattle.std.specs.Prelude.{◌≡◌, [], ℕ};
-ghost use Rattle.kinds.specs.Lent.{lent, lent_rows, lent_record, lent_levels, levels_only, host_of, no_host};
+ghost use Rattle.kinds.specs.Lent.{lent, lent_rows, lent_record, lent_levels, levels_only, lent_by, no_host};
 ghost use Rattle.calls.specs.Call.{words_and_list, five_lists, five_lists_levels, five_lists_host, five_lists_record_host, words_record_host, everything, only_rows, only_record, only_levels};
 ghost use Rattle.calls.specs.Outcome.{judged};
+ghost use Rattle.calls.specs.Answers.{number_of};
 
 use judge_pieces::{five_pass, five_sized, host_passes, list_passes, list_sized, side_sized};
-use kinds::State;
+use kinds::{HostSide, Refusal, State};
 
 // ---- one entry for each set of parts
 
 // Handing back literals.
-pub fn judge_list(s: State, words: &[u32], clauses: &[u32]) -> usize
-    ensures { result ≡ judged words_and_list (lent s words.now clauses.now [] [] [] [] [] [] [] no_host) }
+pub fn judge_list(s: State, words: &[u32], clauses: &[u32]) -> Result<(), Refusal>
+    ensures { number_of result ≡ judged words_and_list (lent s words.now clauses.now [] [] [] [] [] [] [] no_host) }
 {
     if !list_sized(s, words, clauses) {
-        return 1;
+        return Err(Refusal::Size);
     }
     if !list_passes(s, words, clauses) {
-        return 2;
+        return Err(Refusal::Store);
     }
-    0
+    Ok(())
 }
 
 // `prove_units`.
@@ -30,36 +32,26 @@ pub fn judge_list_record_host(
     words: &[u32],
     clauses: &[u32],
     rec: &[u32],
-    values: &[u8],
-    kinds: &[u8],
-    reasons: &[u32],
-    levels: &[u32],
-    trail: &[u32],
-    assigned: usize,
-    level: usize,
-) -> usize
-    ensures { result ≡ judged words_record_host (lent s words.now clauses.now [] [] [] [] [] [] rec.now (host_of values.now kinds.now reasons.now levels.now trail.now assigned level)) }
+    host: HostSide<'_>,
+) -> Result<(), Refusal>
+    ensures { number_of result ≡ judged words_record_host (lent s words.now clauses.now [] [] [] [] [] [] rec.now (lent_by host.entry)) }
 {
     if !list_sized(s, words, clauses) {
-        return 1;
+        return Err(Refusal::Size);
     }
     if !judge_sizes::record_sized(s.recorded, rec) {
-        return 1;
+        return Err(Refusal::Size);
     }
-    if !side_sized(
-        s.vars, values, kinds, reasons, levels, trail, assigned, level,
-    ) {
-        return 1;
+    if !side_sized(s.vars, host) {
+        return Err(Refusal::Size);
     }
     if !list_passes(s, words, clauses) {
-        return 2;
+        return Err(Refusal::Store);
     }
-    if !host_passes(
-        s, words, clauses, values, kinds, reasons, levels, trail, assigned, level,
-    ) {
-        return 3;
+    if !host_passes(s, words, clauses, host) {
+        return Err(Refusal::Host);
     }
-    0
+    Ok(())
 }
 
 // Adding, tiers, decay, reducing mids.
@@ -71,16 +63,16 @@ pub fn judge_five(
     core: &[u32],
     mid: &[u32],
     local: &[u32],
-) -> usize
-    ensures { (result ≡ judged five_lists (lent s words.old clauses.now irred.now core.now mid.now local.now [] [] [] no_host)) × (words.new ≡ words.old) }
+) -> Result<(), Refusal>
+    ensures { (number_of result ≡ judged five_lists (lent s words.old clauses.now irred.now core.now mid.now local.now [] [] [] no_host)) × (words.new ≡ words.old) }
 {
     if !five_sized(s, words, clauses, irred, core, mid, local) {
-        return 1;
+        return Err(Refusal::Size);
     }
     if !five_pass(s, words, clauses, irred, core, mid, local) {
-        return 2;
+        return Err(Refusal::Store);
     }
-    0
+    Ok(())
 }
 
 // Bumping.
@@ -93,22 +85,22 @@ pub fn judge_five_levels(
     mid: &[u32],
     local: &[u32],
     levels: &[u32],
-) -> usize
-    ensures { (result ≡ judged five_lists_levels (lent s words.old clauses.now irred.now core.now mid.now local.now [] [] [] (levels_only levels.now))) × (words.new ≡ words.old) }
+) -> Result<(), Refusal>
+    ensures { (number_of result ≡ judged five_lists_levels (lent s words.old clauses.now irred.now core.now mid.now local.now [] [] [] (levels_only levels.now))) × (words.new ≡ words.old) }
 {
     if !five_sized(s, words, clauses, irred, core, mid, local) {
-        return 1;
+        return Err(Refusal::Size);
     }
     if !judge_sizes::levels_sized(s.vars, levels) {
-        return 1;
+        return Err(Refusal::Size);
     }
     if !five_pass(s, words, clauses, irred, core, mid, local) {
-        return 2;
+        return Err(Refusal::Store);
     }
     if !judge_host::levels_pass(s.vars, levels) {
-        return 3;
+        return Err(Refusal::Host);
     }
-    0
+    Ok(())
 }
 
 // Collecting.
@@ -120,33 +112,23 @@ pub fn judge_five_host(
     core: &[u32],
     mid: &[u32],
     local: &[u32],
-    values: &[u8],
-    kinds: &[u8],
-    reasons: &[u32],
-    levels: &[u32],
-    trail: &[u32],
-    assigned: usize,
-    level: usize,
-) -> usize
-    ensures { (result ≡ judged five_lists_host (lent s words.old clauses.now irred.now core.now mid.now local.now [] [] [] (host_of values.now kinds.now reasons.now levels.now trail.now assigned level))) × (words.new ≡ words.old) }
+    host: HostSide<'_>,
+) -> Result<(), Refusal>
+    ensures { (number_of result ≡ judged five_lists_host (lent s words.old clauses.now irred.now core.now mid.now local.now [] [] [] (lent_by host.entry))) × (words.new ≡ words.old) }
 {
     if !five_sized(s, words, clauses, irred, core, mid, local) {
-        return 1;
+        return Err(Refusal::Size);
     }
-    if !side_sized(
-        s.vars, values, kinds, reasons, levels, trail, assigned, level,
-    ) {
-        return 1;
+    if !side_sized(s.vars, host) {
+        return Err(Refusal::Size);
     }
     if !five_pass(s, words, clauses, irred, core, mid, local) {
-        return 2;
+        return Err(Refusal::Store);
     }
-    if !host_passes(
-        s, words, clauses, values, kinds, reasons, levels, trail, assigned, level,
-    ) {
-        return 3;
+    if !host_passes(s, words, clauses, host) {
+        return Err(Refusal::Host);
     }
-    0
+    Ok(())
 }
 
 // Deleting, reducing locals.
@@ -159,36 +141,26 @@ pub fn judge_five_record_host(
     mid: &[u32],
     local: &[u32],
     rec: &[u32],
-    values: &[u8],
-    kinds: &[u8],
-    reasons: &[u32],
-    levels: &[u32],
-    trail: &[u32],
-    assigned: usize,
-    level: usize,
-) -> usize
-    ensures { (result ≡ judged five_lists_record_host (lent s words.old clauses.now irred.now core.now mid.now local.now [] [] rec.now (host_of values.now kinds.now reasons.now levels.now trail.now assigned level))) × (words.new ≡ words.old) }
+    host: HostSide<'_>,
+) -> Result<(), Refusal>
+    ensures { (number_of result ≡ judged five_lists_record_host (lent s words.old clauses.now irred.now core.now mid.now local.now [] [] rec.now (lent_by host.entry))) × (words.new ≡ words.old) }
 {
     if !five_sized(s, words, clauses, irred, core, mid, local) {
-        return 1;
+        return Err(Refusal::Size);
     }
     if !judge_sizes::record_sized(s.recorded, rec) {
-        return 1;
+        return Err(Refusal::Size);
     }
-    if !side_sized(
-        s.vars, values, kinds, reasons, levels, trail, assigned, level,
-    ) {
-        return 1;
+    if !side_sized(s.vars, host) {
+        return Err(Refusal::Size);
     }
     if !five_pass(s, words, clauses, irred, core, mid, local) {
-        return 2;
+        return Err(Refusal::Store);
     }
-    if !host_passes(
-        s, words, clauses, values, kinds, reasons, levels, trail, assigned, level,
-    ) {
-        return 3;
+    if !host_passes(s, words, clauses, host) {
+        return Err(Refusal::Host);
     }
-    0
+    Ok(())
 }
 
 // `unit_simplify`.
@@ -203,93 +175,83 @@ pub fn judge_all(
     rows: &[u32],
     counts: &[u32],
     rec: &[u32],
-    values: &[u8],
-    kinds: &[u8],
-    reasons: &[u32],
-    levels: &[u32],
-    trail: &[u32],
-    assigned: usize,
-    level: usize,
-) -> usize
-    ensures { (result ≡ judged everything (lent s words.old clauses.now irred.now core.now mid.now local.now rows.now counts.now rec.now (host_of values.now kinds.now reasons.now levels.now trail.now assigned level))) × (words.new ≡ words.old) }
+    host: HostSide<'_>,
+) -> Result<(), Refusal>
+    ensures { (number_of result ≡ judged everything (lent s words.old clauses.now irred.now core.now mid.now local.now rows.now counts.now rec.now (lent_by host.entry))) × (words.new ≡ words.old) }
 {
     if !five_sized(s, words, clauses, irred, core, mid, local) {
-        return 1;
+        return Err(Refusal::Size);
     }
     if !judge_sizes::rows_sized(s.vars, rows, counts) {
-        return 1;
+        return Err(Refusal::Size);
     }
     if !judge_sizes::record_sized(s.recorded, rec) {
-        return 1;
+        return Err(Refusal::Size);
     }
-    if !side_sized(
-        s.vars, values, kinds, reasons, levels, trail, assigned, level,
-    ) {
-        return 1;
+    if !side_sized(s.vars, host) {
+        return Err(Refusal::Size);
     }
     if !five_pass(s, words, clauses, irred, core, mid, local) {
-        return 2;
+        return Err(Refusal::Store);
     }
     if !judge_rows::rows_pass(s.vars, s.binary, rows, counts) {
-        return 2;
+        return Err(Refusal::Store);
     }
-    if !host_passes(
-        s, words, clauses, values, kinds, reasons, levels, trail, assigned, level,
-    ) {
-        return 3;
+    if !host_passes(s, words, clauses, host) {
+        return Err(Refusal::Host);
     }
-    0
+    Ok(())
 }
 
 // Adding a binary clause, reading implied literals.
-pub fn judge_rows(s: State, rows: &[u32], counts: &[u32]) -> usize
-    ensures { result ≡ judged only_rows (lent_rows s rows.now counts.now) }
+pub fn judge_rows(s: State, rows: &[u32], counts: &[u32]) -> Result<(), Refusal>
+    ensures { number_of result ≡ judged only_rows (lent_rows s rows.now counts.now) }
 {
     if !judge_sizes::vars_in_range(s.vars) {
-        return 1;
+        return Err(Refusal::Size);
     }
     if !judge_sizes::rows_sized(s.vars, rows, counts) {
-        return 1;
+        return Err(Refusal::Size);
     }
     if !judge_rows::rows_pass(s.vars, s.binary, rows, counts) {
-        return 2;
+        return Err(Refusal::Store);
     }
     let activity = s.activity;
     if !judge_sizes::floats_pass(activity) {
-        return 2;
+        return Err(Refusal::Store);
     }
-    0
+    Ok(())
 }
 
 // Emptying the record.
-pub fn judge_record(s: State, rec: &[u32]) -> usize
-    ensures { result ≡ judged only_record (lent_record s rec.now) }
+pub fn judge_record(s: State, rec: &[u32]) -> Result<(), Refusal>
+    ensures { number_of result ≡ judged only_record (lent_record s rec.now) }
 {
     if !judge_sizes::vars_in_range(s.vars) {
-        return 1;
+        return Err(Refusal::Size);
     }
     if !judge_sizes::record_sized(s.recorded, rec) {
-        return 1;
+        return Err(Refusal::Size);
     }
     let activity = s.activity;
     if !judge_sizes::floats_pass(activity) {
-        return 2;
+        return Err(Refusal::Store);
     }
-    0
+    Ok(())
 }
 
 // Assessing.
-pub fn judge_levels(vars: usize, levels: &[u32]) -> usize
-    ensures { result ≡ judged only_levels (lent_levels vars levels.now) }
+pub fn judge_levels(vars: usize, levels: &[u32]) -> Result<(), Refusal>
+    ensures { number_of result ≡ judged only_levels (lent_levels vars levels.now) }
 {
     if !judge_sizes::vars_in_range(vars) {
-        return 1;
+        return Err(Refusal::Size);
     }
     if !judge_sizes::levels_sized(vars, levels) {
-        return 1;
+        return Err(Refusal::Size);
     }
     if !judge_host::levels_pass(vars, levels) {
-        return 3;
+        return Err(Refusal::Host);
     }
-    0
+    Ok(())
 }

@@ -1,47 +1,22 @@
 // Judging the host's side: "The host's side passes if ..".
 #![tactic(auto)]
 
-ghost use Rattle.std.specs.Prelude.{◌≡◌, true, ◌&&◌, ℕ, ◌+◌, ◌*◌, ◌≤◌, ◌<◌, ◌^◌, length, take, leb};
+ghost use Rattle.std.specs.Prelude.{◌≡◌, ◌≤◌, ◌<◌, length, take};
 ghost use Rattle.laws.specs.Fold.{all_below};
-ghost use Rattle.laws.specs.Lists.{at};
 ghost use Rattle.kinds.specs.Clauses.{var_of};
 ghost use Rattle.kinds.specs.Held.{is_true, is_false};
 ghost use Rattle.kinds.specs.Numbers.{reason_kind};
-ghost use Rattle.calls.specs.HostPasses.{at_most_at, trail_ok_at, trail_ok, binary_reason_ok, binary_reasons_ok, side_passes};
-ghost use Rattle.judge_host.specs.Sides.{side_of, SideSized, Coded, Seen, Once, seen_ok};
+ghost use Rattle.calls.specs.HostPasses.{at_most_at, side_passes};
+ghost use Rattle.judge_host.specs.Sides.{side_of, standing, SideSized, Seen, Once, seen_ok};
 
-use buffers::{byte, word};
-use kinds::{Lit, LitValue, Reason, lit_value, node_at};
+use kinds::{HostSide, Lit, LitValue, Reason, lit_value, node_at};
 
 // ---- "assignment bytes .. and reason kinds are in range"; "each level .. at most V"
 
-// Each of the first n words is at most `most`.
-fn words_at_most(words: &[u32], most: usize, n: usize) -> bool
-    requires { n ≤ length words.now }
-    ensures { result ≡ all_below (at_most_at most words.now) n }
+fn bytes_at_most(bytes: &[u8], most: u8) -> bool
+    ensures { result ≡ all_below (at_most_at most bytes.now) (length bytes.now) }
 {
-    let mut i = 0;
-    while i < n {
-        if most < word(words, i) {
-            return false;
-        }
-        i += 1;
-    }
-    true
-}
-
-fn bytes_at_most(bytes: &[u8], most: usize, n: usize) -> bool
-    requires { n ≤ length bytes.now }
-    ensures { result ≡ all_below (at_most_at most bytes.now) n }
-{
-    let mut i = 0;
-    while i < n {
-        if most < byte(bytes, i) {
-            return false;
-        }
-        i += 1;
-    }
-    true
+    bytes.iter().all(|byte| *byte <= most)
 }
 
 // Refusal 1 was judged before: a level for each variable.
@@ -49,68 +24,39 @@ pub fn levels_pass(vars: usize, levels: &[u32]) -> bool
     requires { vars ≤ length levels.now }
     ensures { result ≡ all_below (at_most_at vars levels.now) vars }
 {
-    words_at_most(levels, vars, vars)
+    levels[..vars].iter().all(|level| *level as usize <= vars)
 }
 
 // ---- "trail codes .. are in range", "each variable once"
 
-fn trail_once(seen: &mut [u8; 65536], vars: usize, trail: &[u32]) -> bool
+fn trail_once(seen: &mut [bool; 65536], vars: usize, trail: &[u32]) -> bool
     requires { Seen trail.now 0 seen.old × (vars ≤ 65536) }
     ensures { Once vars trail.now result seen.new }
 {
-    let mut j = 0;
-    while j < trail.len() {
-        let code = word(trail, j);
+    for code in trail {
+        let code = *code as usize;
         if 2 * vars <= code {
             return false;
         }
         let var = code / 2;
-        if seen[var] != 0 {
+        if seen[var] {
             return false;
         }
-        seen[var] = 1;
-        j += 1;
+        seen[var] = true;
     }
     true
 }
 
 // ---- "an assigned variable off the trail has reason 4"
 
-fn removed_at(seen: &[u8; 65536], values: &[u8], kinds: &[u8], x: usize) -> bool
-    requires { (x < 65536) × (x < length values.now) × (x < length kinds.now) }
-    ensures { result ≡ seen_ok seen.now values.now kinds.now x }
-{
-    if byte(values, x) == 2 {
-        return true;
-    }
-    if seen[x] == 1 {
-        return true;
-    }
-    byte(kinds, x) == 4
-}
-
-fn removed_ok(vars: usize, seen: &[u8; 65536], values: &[u8], kinds: &[u8]) -> bool
+fn removed_ok(vars: usize, seen: &[bool; 65536], values: &[u8], kinds: &[u8]) -> bool
     requires { (vars ≤ 65536) × (vars ≤ length values.now) × (vars ≤ length kinds.now) }
     ensures { result ≡ all_below (seen_ok seen.now values.now kinds.now) vars }
 {
-    let mut x = 0;
-    while x < vars {
-        if !removed_at(seen, values, kinds, x) {
-            return false;
-        }
-        x += 1;
-    }
-    true
+    (0..vars).all(|x| values[x] == 2 || seen[x] || kinds[x] == 4)
 }
 
 // ---- literals under the assignment
-
-pub fn lit_at(words: &[u32], k: usize) -> Lit
-    requires { k < length words.now }
-    ensures { result.0 ≡ at words.now k }
-{
-    Lit(words[k])
-}
 
 fn is_true(values: &[u8], lit: Lit) -> bool
     requires { var_of lit.0 < length values.now }
@@ -140,170 +86,107 @@ pub fn is_false(values: &[u8], lit: Lit) -> bool
 
 // Unit, binary or long.
 fn is_standing(reason: Reason) -> bool
-    ensures { result ≡ leb 1 (reason_kind reason) && leb (reason_kind reason) 3 }
+    ensures { result ≡ standing (reason_kind reason) }
 {
-    match reason {
-        Reason::None => false,
-        Reason::Unit => true,
-        Reason::Binary(_) => true,
-        Reason::Long(_) => true,
-        Reason::Removed => false,
-    }
+    matches!(reason, Reason::Unit | Reason::Binary(_) | Reason::Long(_))
 }
 
-fn trail_ok_at(
+// The host's side, whose buffers have an entry for each variable.
+#[derive(Clone, Copy)]
+struct SizedSide<'a> {
     vars: usize,
-    values: &[u8],
-    kinds: &[u8],
-    reasons: &[u32],
-    levels: &[u32],
-    trail: &[u32],
-    level: usize,
-    j: usize,
-) -> bool
-    requires { SideSized vars values.now kinds.now reasons.now levels.now × Coded vars trail.now × (j < length trail.now) }
-    ensures { result ≡ trail_ok_at (side_of values.now kinds.now reasons.now levels.now trail.now level) j }
-{
-    let lit = lit_at(trail, j);
-    if !is_true(values, lit) {
-        return false;
-    }
-    let var = lit.var();
-    let node = node_at(kinds, reasons, levels, var);
-    let reason = node.reason;
-    if !is_standing(reason) {
-        return false;
-    }
-    node.level as usize <= level
+    host: HostSide<'a>,
+    ghost sized: { SideSized vars host.values.now host.kinds.now host.reasons.now host.levels.now },
 }
 
-fn trail_ok(
-    vars: usize,
-    values: &[u8],
-    kinds: &[u8],
-    reasons: &[u32],
-    levels: &[u32],
-    trail: &[u32],
-    level: usize,
-) -> bool
-    requires { SideSized vars values.now kinds.now reasons.now levels.now × Coded vars trail.now }
-    ensures { result ≡ trail_ok (side_of values.now kinds.now reasons.now levels.now trail.now level) }
-{
-    let mut j = 0;
-    while j < trail.len() {
-        if !trail_ok_at(vars, values, kinds, reasons, levels, trail, level, j) {
+impl<'a> SizedSide<'a> {
+    ghost use Rattle.std.specs.Prelude.{◌≡◌, ◌*◌, ◌<◌, [], ◌∷◌};
+    ghost use Rattle.calls.specs.HostPasses.{trail_ok, binary_reason_ok, binary_reasons_ok, side_passes};
+    ghost use Rattle.judge_host.specs.Sides.{stands, Coded};
+    ghost use Rattle.judge_host.specs.Held.{held};
+
+    fn stands(self, lit: Lit) -> bool
+        requires { lit.0 < 2 * self.vars }
+        ensures { result ≡ stands (held self.entry []) lit.0 }
+    {
+        let host = self.host;
+        let node = node_at(host.kinds, host.reasons, host.levels, lit.var());
+        is_true(host.values, lit) && is_standing(node.reason) && node.level as usize <= host.level
+    }
+
+    fn trail_ok(self, trail: &[u32]) -> bool
+        requires { Coded self.vars trail.now }
+        ensures { result ≡ trail_ok (held self.entry trail.now) }
+    {
+        for code in trail {
+            if !self.stands(Lit(*code)) {
+                return false;
+            }
+        }
+        true
+    }
+
+    // ---- "all other literals of its reason are false", of a binary reason
+
+    #[tactic(auto, unfolding(calls::specs::HostPasses::binary_reason_ok))]
+    fn binary_reason_ok(self, lit: Lit) -> bool
+        requires { lit.0 < 2 * self.vars }
+        ensures { result ≡ binary_reason_ok (held self.entry (lit.0 ∷ [])) 0 }
+    {
+        let host = self.host;
+        let node = node_at(host.kinds, host.reasons, host.levels, lit.var());
+        let Reason::Binary(other) = node.reason else {
+            return true;
+        };
+        is_false(host.values, other)
+    }
+
+    fn binary_reasons_ok(self, trail: &[u32]) -> bool
+        requires { Coded self.vars trail.now }
+        ensures { result ≡ binary_reasons_ok (held self.entry trail.now) }
+    {
+        for code in trail {
+            if !self.binary_reason_ok(Lit(*code)) {
+                return false;
+            }
+        }
+        true
+    }
+
+    // ---- all of it
+
+    fn passes(self, trail: &[u32]) -> bool
+        ensures { result ≡ side_passes self.entry.vars (held self.entry trail.now) }
+    {
+        let vars = self.vars;
+        let host = self.host;
+        if !bytes_at_most(host.values, 2) {
             return false;
         }
-        j += 1;
-    }
-    true
-}
-
-// ---- "all other literals of its reason are false", of a binary reason
-
-fn binary_reason_ok(
-    vars: usize,
-    values: &[u8],
-    kinds: &[u8],
-    reasons: &[u32],
-    levels: &[u32],
-    trail: &[u32],
-    level: usize,
-    j: usize,
-) -> bool
-    requires { SideSized vars values.now kinds.now reasons.now levels.now × Coded vars trail.now × (j < length trail.now) }
-    ensures { result ≡ binary_reason_ok (side_of values.now kinds.now reasons.now levels.now trail.now level) j }
-{
-    let lit = lit_at(trail, j);
-    let var = lit.var();
-    let node = node_at(kinds, reasons, levels, var);
-    let reason = node.reason;
-    let Reason::Binary(other) = reason else {
-        return true;
-    };
-    is_false(values, other)
-}
-
-fn binary_reasons_ok(
-    vars: usize,
-    values: &[u8],
-    kinds: &[u8],
-    reasons: &[u32],
-    levels: &[u32],
-    trail: &[u32],
-    level: usize,
-) -> bool
-    requires { SideSized vars values.now kinds.now reasons.now levels.now × Coded vars trail.now }
-    ensures { result ≡ binary_reasons_ok (side_of values.now kinds.now reasons.now levels.now trail.now level) }
-{
-    let mut j = 0;
-    while j < trail.len() {
-        if !binary_reason_ok(vars, values, kinds, reasons, levels, trail, level, j) {
+        if !bytes_at_most(host.kinds, 4) {
             return false;
         }
-        j += 1;
+        let mut seen = [false; 65536];
+        if !trail_once(&mut seen, vars, trail) {
+            return false;
+        }
+        if vars < host.level {
+            return false;
+        }
+        if !self.trail_ok(trail) {
+            return false;
+        }
+        if !removed_ok(vars, &seen, host.values, host.kinds) {
+            return false;
+        }
+        self.binary_reasons_ok(trail)
     }
-    true
-}
-
-// ---- all of it
-
-// The trail is its used part.
-fn side_ok(
-    vars: usize,
-    values: &[u8],
-    kinds: &[u8],
-    reasons: &[u32],
-    levels: &[u32],
-    trail: &[u32],
-    level: usize,
-) -> bool
-    requires { SideSized vars values.now kinds.now reasons.now levels.now }
-    ensures { result ≡ side_passes vars (side_of values.now kinds.now reasons.now levels.now trail.now level) }
-{
-    if !bytes_at_most(values, 2, vars) {
-        return false;
-    }
-    if !bytes_at_most(kinds, 4, vars) {
-        return false;
-    }
-    let mut seen = [0u8; 65536];
-    if !trail_once(&mut seen, vars, trail) {
-        return false;
-    }
-    if vars < level {
-        return false;
-    }
-    if !trail_ok(vars, values, kinds, reasons, levels, trail, level) {
-        return false;
-    }
-    if !removed_ok(vars, &seen, values, kinds) {
-        return false;
-    }
-    binary_reasons_ok(vars, values, kinds, reasons, levels, trail, level)
 }
 
 // Refusal 1 was judged before: V in range, buffers of V bytes and words, a used length within the trail. Every number in them is any number.
-pub fn side_pass(
-    vars: usize,
-    values: &[u8],
-    kinds: &[u8],
-    reasons: &[u32],
-    levels: &[u32],
-    trail: &[u32],
-    assigned: usize,
-    level: usize,
-) -> bool
-    requires { SideSized vars values.now kinds.now reasons.now levels.now × (assigned ≤ length trail.now) }
-    ensures { result ≡ side_passes vars (side_of values.now kinds.now reasons.now levels.now (take assigned trail.now) level) }
+pub fn side_pass(vars: usize, host: HostSide<'_>) -> bool
+    requires { SideSized vars host.values.now host.kinds.now host.reasons.now host.levels.now × (host.assigned ≤ length host.trail.now) }
+    ensures { result ≡ side_passes vars (side_of host.entry.values.now host.entry.kinds.now host.entry.reasons.now host.entry.levels.now (take host.entry.assigned host.entry.trail.now) host.entry.level) }
 {
-    side_ok(
-        vars,
-        values,
-        kinds,
-        reasons,
-        levels,
-        &trail[..assigned],
-        level,
-    )
+    SizedSide { vars, host }.passes(&host.trail[..host.assigned])
 }

@@ -1,75 +1,62 @@
 -- Each set of lent parts is judged by these pieces, and a piece sees only what it speaks of. Assumes nothing.
-use mathlib.Core.Path.{◌≡◌, refl, sym, ap, ap₂, ◌∙◌}
-use mathlib.Core.Bool.{Bool, true, false, ◌&&◌}
+use native.Mathlib.Omega.{arith}
+use mathlib.Core.Path.{◌≡◌, refl, ap}
+use mathlib.Core.Bool.{Bool, true, ◌&&◌}
 use mathlib.Core.List.{List, []}
-use Prim.Native.Nat.{ℕ, ◌<◌}
-use lib.ListN.{length}
-use Rattle.laws.specs.Fold.{all_below}
+use Prim.Native.Nat.{ℕ}
 use Rattle.laws.proofs.Folds.{all_same}
 use Rattle.laws.proofs.Tests.{and_true}
-use Rattle.kinds.specs.Lent.{Lent, Host, Parts, lent, lent_five, no_host}
-use Rattle.kinds.specs.Held.{Held}
-use Rattle.kinds.specs.Layout.{view, side, lent_then}
+use Rattle.kinds.specs.Lent.{Lent, Host, lent, lent_five, no_host}
+use Rattle.kinds.specs.Layout.{view}
 use Rattle.kinds.specs.declared.State.{State}
 use Rattle.calls.specs.Call.{words_and_list, five_lists, five_lists_levels, five_lists_host, five_lists_record_host, words_record_host, everything, only_rows, only_record, only_levels}
-use Rattle.calls.specs.Size.{vars_in_range, words_sized, tier_sized, tiers_sized, rows_sized, record_sized, levels_sized, host_sized, sizes_ok}
+use Rattle.calls.specs.Size.{vars_in_range, words_sized, tier_sized, tiers_sized, rows_sized, record_sized, levels_sized, sizes_ok}
 use Rattle.calls.specs.StorePasses.{words_pass, tier_ok, tiers_ok, rows_pass, floats_pass, store_passes}
-use Rattle.calls.specs.HostPasses.{levels_in_range, side_passes, long_reasons_ok, host_passes}
+use Rattle.calls.specs.HostPasses.{levels_in_range, host_passes}
 use Rattle.judge_pieces.specs.Sides.{list_sized, five_sized, list_passes, five_pass, side_sized, host_passing}
-
-regroup : (a b x : Bool) → a && (b && x) ≡ (a && b) && x
-regroup true b x = refl
-regroup false b x = refl
-
-regroup₃ : (a b c x : Bool) → a && (b && (c && x)) ≡ ((a && b) && c) && x
-regroup₃ true true c x = refl
-regroup₃ true false c x = refl
-regroup₃ false b c x = refl
 
 -- ---- 1
 
 module _ (k : Lent) where
   pub sizes_list : sizes_ok words_and_list k ≡ list_sized k
   unfolding sizes_ok list_sized
-  sizes_list = ap (λ (b : Bool). vars_in_range k.state.vars && b) (and_true (words_sized k))
+  sizes_list = grind arith
 
   pub sizes_list_record_host : sizes_ok words_record_host k ≡ list_sized k && (record_sized k && side_sized k)
   unfolding sizes_ok list_sized side_sized
-  sizes_list_record_host = regroup (vars_in_range k.state.vars) (words_sized k) (record_sized k && (levels_sized k.state.vars k.host && host_sized k.state.vars k.host))
+  sizes_list_record_host = grind arith
 
   pub sizes_five : sizes_ok five_lists k ≡ five_sized k
   unfolding sizes_ok five_sized list_sized
-  sizes_five = regroup₃ (vars_in_range k.state.vars) (words_sized k) (tiers_sized k) true ∙ and_true _
+  sizes_five = grind arith
 
   pub sizes_five_levels : sizes_ok five_lists_levels k ≡ five_sized k && levels_sized k.state.vars k.host
   unfolding sizes_ok five_sized list_sized
-  sizes_five_levels =
-      ap (λ (b : Bool). vars_in_range k.state.vars && (words_sized k && (tiers_sized k && b))) (and_true (levels_sized k.state.vars k.host))
-      ∙ regroup₃ (vars_in_range k.state.vars) (words_sized k) (tiers_sized k) (levels_sized k.state.vars k.host)
+  sizes_five_levels = grind arith
 
   pub sizes_five_host : sizes_ok five_lists_host k ≡ five_sized k && side_sized k
   unfolding sizes_ok five_sized list_sized side_sized
-  sizes_five_host = regroup₃ (vars_in_range k.state.vars) (words_sized k) (tiers_sized k) (levels_sized k.state.vars k.host && host_sized k.state.vars k.host)
+  sizes_five_host = grind arith
 
   pub sizes_five_record_host : sizes_ok five_lists_record_host k ≡ five_sized k && (record_sized k && side_sized k)
   unfolding sizes_ok five_sized list_sized side_sized
-  sizes_five_record_host = regroup₃ (vars_in_range k.state.vars) (words_sized k) (tiers_sized k) (record_sized k && (levels_sized k.state.vars k.host && host_sized k.state.vars k.host))
+  sizes_five_record_host = grind arith
 
   pub sizes_everything : sizes_ok everything k ≡ five_sized k && (rows_sized k && (record_sized k && side_sized k))
   unfolding sizes_ok five_sized list_sized side_sized
-  sizes_everything = regroup₃ (vars_in_range k.state.vars) (words_sized k) (tiers_sized k) (rows_sized k && (record_sized k && (levels_sized k.state.vars k.host && host_sized k.state.vars k.host)))
+  sizes_everything = grind arith
 
   pub sizes_rows : sizes_ok only_rows k ≡ vars_in_range k.state.vars && rows_sized k
   unfolding sizes_ok
-  sizes_rows = ap (λ (b : Bool). vars_in_range k.state.vars && b) (and_true (rows_sized k))
+  sizes_rows = grind arith
 
   pub sizes_record : sizes_ok only_record k ≡ vars_in_range k.state.vars && record_sized k
   unfolding sizes_ok
-  sizes_record = ap (λ (b : Bool). vars_in_range k.state.vars && b) (and_true (record_sized k))
+  sizes_record = grind arith
 
   pub sizes_levels : sizes_ok only_levels k ≡ vars_in_range k.state.vars && levels_sized k.state.vars k.host
   unfolding sizes_ok
-  sizes_levels = ap (λ (b : Bool). vars_in_range k.state.vars && b) (and_true (levels_sized k.state.vars k.host))
+  sizes_levels = grind arith
 
   -- ---- 2 and 3
 
@@ -98,17 +85,9 @@ module _ (k : Lent) where
   store_five_record_host = refl
 
   -- the rows are judged last
-  last_two : (a b r f : Bool) → a && (b && (r && f)) ≡ (a && (b && f)) && r
-  last_two true true true true = refl
-  last_two true true true false = refl
-  last_two true true false true = refl
-  last_two true true false false = refl
-  last_two true false r f = refl
-  last_two false b r f = refl
-
   pub store_everything : store_passes everything (view k) ≡ five_pass (view k) && rows_pass (view k)
   unfolding store_passes five_pass
-  store_everything = last_two (words_pass (view k)) (tiers_ok (view k)) (rows_pass (view k)) (floats_pass (view k))
+  store_everything = grind arith
 
   pub store_rows : store_passes only_rows (view k) ≡ rows_pass (view k) && floats_pass (view k)
   unfolding store_passes

@@ -1,24 +1,21 @@
 -- What each piece of the judging may ask of the next. Assumes nothing.
-use mathlib.Core.Path.{◌≡◌, refl, sym, ap, ◌∙◌}
-use mathlib.Core.Bool.{Bool, true, false, ◌&&◌}
-use mathlib.Core.List.{List, [], ◌∷◌}
-use Prim.Native.Nat.{ℕ, ◌^◌, ◌≤◌}
+use mathlib.Core.Path.{◌≡◌, sym, ◌∙◌}
+use mathlib.Core.Bool.{Bool, true}
+use Prim.Native.Nat.{◌^◌, ◌≤◌}
 use lib.ListN.{length}
 use lib.Dec.{leb}
 use borrow.Author.Tests.{leb-true}
 use Rattle.laws.specs.Fold.{all_below}
-use Rattle.laws.specs.Lists.{at}
 use Rattle.laws.proofs.Folds.{and_left, and_right}
-use Rattle.kinds.specs.Lent.{Lent, Host, lent_five, no_host}
+use Rattle.kinds.specs.Lent.{Lent}
 use Rattle.kinds.specs.Layout.{view}
-use Rattle.kinds.specs.declared.State.{State}
-use Rattle.calls.specs.Size.{vars_in_range, words_sized, tiers_sized}
-use Rattle.calls.specs.StorePasses.{words_pass, tiers_ok, floats_pass}
+use Rattle.calls.specs.Size.{vars_in_range, tiers_sized}
+use Rattle.calls.specs.StorePasses.{words_pass, tiers_ok}
 use Rattle.judge_words.proofs.Whole.{WordsSized, words_sized_lem, words_whole, words_test_lem}
 use Rattle.judge_tiers.specs.Marking.{Ready, tier_test}
-use Rattle.judge_tiers.proofs.Whole.{tiers_sized_lem, tiers_whole, ready_of, lists_sized}
+use Rattle.judge_tiers.proofs.Whole.{tiers_sized_lem, tiers_whole, ready_of}
 use Rattle.calls.specs.Size.{levels_sized, host_sized}
-use Rattle.calls.specs.StorePasses.{placed, clauses_ok, counts_ok, garbage_ok}
+use Rattle.calls.specs.StorePasses.{placed}
 use Rattle.judge_host.specs.Sides.{SideSized}
 use Rattle.judge_host.proofs.Whole.{side_sized_lem, assigned_within, levels_sized_lem}
 use Rattle.judge_reasons.specs.Reasons.{Listed as Placed}

@@ -1,120 +1,176 @@
 -- Numbering entries by code. Assumes nothing.
 use mathlib.Core.Path.{◌≡◌, refl, sym, ap, ap₂, ◌∙◌, subst}
-use mathlib.Core.Bool.{Bool, true, false, not, ◌||◌, ◌&&◌}
-use mathlib.Core.List.{List}
-use mathlib.Core.Logic.{⊎_elim}
+use mathlib.Core.Bool.{Bool, true, false}
+use mathlib.Core.List.{List, []}
+use mathlib.Core.Logic.{⊎_elim, inl, inr}
+use Rattle.std.proofs.lemmas.Bool.{cases_Bool, cases_lt}
+use Rattle.std.proofs.lemmas.List.{get_or_past}
 use Prim.Native.Nat.{ℕ, zero, suc, ◌+◌, ◌-◌, ◌*◌, ◌^◌, ◌≤◌, ◌<◌}
 use native.Mathlib.Omega.{arith}
 use native.Mathlib.Decide.{ℕ_discrete}
 use native.Mathlib.Nat.{mul-zero, one-mul, zero-mul, le_of_suc-le-suc, eq-or-lt_of_le}
-use lib.ListN.{length, set, length-set, replicate, length-replicate, get_or-replicate}
-use lib.Seq.{get_or-set_same, get_or-set_other}
+use lib.ListN.{length, take, set, length-set, replicate, length-replicate, get_or-replicate}
+use Rattle.std.proofs.lemmas.Grind.{get_or-set_at}
+use Rattle.std.specs.List.{count_by}
+use Rattle.std.proofs.lemmas.List.Sums.{count_by_more_yes, count_by_more_no}
+use lib.Seq.{get_or-set_other, take-length}
+use native.Mathlib.Numerals.{add-one}
 use lib.Dec.{eqb, ltb}
 use borrow.Author.Tests.{eq-eqb, ne_eqb, lt-ltb, le-ltb}
 use Rattle.laws.specs.Fold.{all_below, one, count_below, sum_below}
 use Rattle.laws.specs.Lists.{at, list_at}
+use Rattle.laws.proofs.Loops.{and_on}
 use Rattle.laws.proofs.Folds.{and_fails_left, or_left, count_none, count_more, count_le}
 use Rattle.laws.proofs.Sums.{sum_none, sum_more}
-use Rattle.laws.proofs.Tests.{passed, failed}
 use Rattle.laws.proofs.Totals.{count_yes, count_no}
 use Rattle.laws.proofs.Values.{sum_mono}
 use Rattle.kinds.specs.Clauses.{neg}
 use Rattle.kinds.specs.Held.{Held}
-use Rattle.calls.specs.StorePasses.{stands_at, rows_in_range, times_in, row_length}
-use Rattle.judge_rows.specs.Rows.{rows_in, RowsSized, entry_even}
-use Rattle.judge_rows.specs.Sparse.{up_from, up_so_far, Ups, UpsIn, Times, TimesLeft, NoTimes, shorter, down_at, down, up, sparse_at, sparse_row}
+use Rattle.calls.specs.StorePasses.{stands_at, times_in, row_length}
+use Rattle.judge_rows.specs.declared.RangedRows.{RangedRows}
+use Rattle.judge_rows.specs.Rows.{entry_even}
+use Rattle.judge_rows.specs.Held.{held}
+use Rattle.judge_rows.specs.Sparse.{up_from, Ups, UpsIn, Codes, Times, TimesLeft, shorter, down_at, down, up, sparse_at, sparse_row}
 use Rattle.judge_rows.proofs.Places.{sum_in, sum_with}
 use Rattle.judge_rows.proofs.Symmetric.{neg_neg, neg_lt, entry_below}
 
--- ---- counts of one more entry b of the row of c
-
-module _ (h : Held) (c k b : ℕ) (e : b ≡ at (list_at h.rows c) k) where
-  count_same_as : (x : ℕ) → b ≡ x → count_below (stands_at (list_at h.rows c) x) (k + 1) ≡ count_below (stands_at (list_at h.rows c) x) k + 1
-  unfolding stands_at
-  count_same_as x q = count_more (stands_at (list_at h.rows c) x) k ∙ ap (λ (t : Bool). count_below (stands_at (list_at h.rows c) x) k + one t) (eq-eqb (at (list_at h.rows c) k) x (sym e ∙ q))
-
-  count_other : (x : ℕ) → (b ≡ x → ⊥) → count_below (stands_at (list_at h.rows c) x) (k + 1) ≡ count_below (stands_at (list_at h.rows c) x) k
-  unfolding stands_at
-  count_other x n = count_more (stands_at (list_at h.rows c) x) k ∙ ap (λ (t : Bool). count_below (stands_at (list_at h.rows c) x) k + one t) (ne_eqb (at (list_at h.rows c) k) x (λ q. n (e ∙ q))) ∙ omega arith
-
-  -- counting it
-  pub times_more : (times : List ℕ) → Times h c k times → b < 131072 → Times h c (k + 1) (set times b (at times b + 1))
-  times_more times t l = record { long = length-set times b (at times b + 1) ∙ t.long; each = λ x m. go x m (ℕ_discrete b x) }
-    where
-      go : (x : ℕ) → x < 2 * h.vars → Dec (b ≡ x) → at (set times b (at times b + 1)) x ≡ count_below (stands_at (list_at h.rows c) x) (k + 1)
-      go x m (yes q) =
-          subst (λ (y : ℕ). at (set times b (at times b + 1)) y ≡ at times y + 1) q (get_or-set_same times b (at times b + 1) 0 (omega (arith, t.long)))
-          ∙ omega (arith, t.each x m, count_same_as x q)
-      go x m (no q) = get_or-set_other times b x (at times b + 1) 0 (λ z. q (sym z)) ∙ t.each x m ∙ sym (count_other x q)
-
-  -- uncounting it
-  pub left_more : (times : List ℕ) → TimesLeft h c k times → b < 131072 → 0 < at times b → TimesLeft h c (k + 1) (set times b (at times b - 1))
-  left_more times t l p = record { long = length-set times b (at times b - 1) ∙ t.long; each = λ x m. go x m (ℕ_discrete b x) }
-    where
-      go : (x : ℕ) → x < 2 * h.vars → Dec (b ≡ x) → at (set times b (at times b - 1)) x + count_below (stands_at (list_at h.rows c) x) (k + 1) ≡ times_in h c x
-      go x m (yes q) =
-          let here : at (set times b (at times b - 1)) x ≡ at times x - 1 = subst (λ (y : ℕ). at (set times b (at times b - 1)) y ≡ at times y - 1) q (get_or-set_same times b (at times b - 1) 0 (omega (arith, t.long))) in
-          let some : 0 < at times x = subst (λ (y : ℕ). 0 < at times y) q p in
-          omega (arith, here, t.each x m, count_same_as x q)
-      go x m (no q) = omega (arith, get_or-set_other times b x (at times b - 1) 0 (λ z. q (sym z)), t.each x m, count_other x q)
-
-  -- pointing to a longer row, or not
-  module _ (r : ℕ) (er : r ≡ neg b) (ups : List ℕ) (u : UpsIn h c k ups) where
-    aside : (x : ℕ) → (r ≡ x → ⊥) → up_so_far h c (k + 1) x ≡ up_so_far h c k x
-    aside x n = ap (λ (m : ℕ). sum_below (up_from h x) c + one (ltb (row_length h c) (row_length h x)) * m) (count_other (neg x) (λ q. n (er ∙ ap neg q ∙ neg_neg x)))
-
-    pub up_skip : row_length h r ≤ row_length h c → UpsIn h c (k + 1) ups
-    up_skip l = record { long = u.long; each = λ x m. go x m (ℕ_discrete r x) }
-      where
-        none : (x : ℕ) → r ≡ x → (n : ℕ) → one (ltb (row_length h c) (row_length h x)) * n ≡ 0
-        none x q n = ap (λ (t : Bool). one t * n) (le-ltb (row_length h c) (row_length h x) (subst (λ (y : ℕ). row_length h y ≤ row_length h c) q l)) ∙ zero-mul n
-
-        go : (x : ℕ) → x < 2 * h.vars → Dec (r ≡ x) → at ups x ≡ up_so_far h c (k + 1) x
-        go x m (yes q) = omega (arith, u.each x m, none x q (count_below (stands_at (list_at h.rows c) (neg x)) k), none x q (count_below (stands_at (list_at h.rows c) (neg x)) (k + 1)))
-        go x m (no q) = u.each x m ∙ sym (aside x q)
-
-    pub up_more : row_length h c < row_length h r → r < 131072 → UpsIn h c (k + 1) (set ups r (at ups r + 1))
-    up_more l d = record { long = length-set ups r (at ups r + 1) ∙ u.long; each = λ x m. go x m (ℕ_discrete r x) }
-      where
-        whole : (x : ℕ) → r ≡ x → (n : ℕ) → one (ltb (row_length h c) (row_length h x)) * n ≡ n
-        whole x q n = ap (λ (t : Bool). one t * n) (lt-ltb (row_length h c) (row_length h x) (subst (λ (y : ℕ). row_length h c < row_length h y) q l)) ∙ one-mul n
-
-        go : (x : ℕ) → x < 2 * h.vars → Dec (r ≡ x) → at (set ups r (at ups r + 1)) x ≡ up_so_far h c (k + 1) x
-        go x m (yes q) =
-            let here : at (set ups r (at ups r + 1)) x ≡ at ups x + 1 = subst (λ (y : ℕ). at (set ups r (at ups r + 1)) y ≡ at ups y + 1) q (get_or-set_same ups r (at ups r + 1) 0 (omega (arith, u.long))) in
-            let back : b ≡ neg x = sym (neg_neg b) ∙ ap neg (sym er ∙ q) in
-            omega (arith, here, u.each x m, count_same_as (neg x) back, whole x q (count_below (stands_at (list_at h.rows c) (neg x)) k), whole x q (count_below (stands_at (list_at h.rows c) (neg x)) (k + 1)))
-        go x m (no q) = get_or-set_other ups r x (at ups r + 1) 0 (λ z. q (sym z)) ∙ u.each x m ∙ sym (aside x q)
-
--- ---- before the first entry, and behind the last
-
-pub times_none : (h : Held) (c : ℕ) (times : List ℕ) → NoTimes h times → Times h c 0 times
-times_none h c times t = record { long = t.long; each = λ x m. t.each x m ∙ sym (count_none (stands_at (list_at h.rows c) x)) }
-
-pub left_all : (h : Held) (c : ℕ) (times : List ℕ) → Times h c (row_length h c) times → TimesLeft h c 0 times
-unfolding times_in row_length
-left_all h c times t = record { long = t.long; each = λ x m. omega (arith, t.each x m, count_none (stands_at (list_at h.rows c) x)) }
-
-pub left_none : (h : Held) (c k : ℕ) (times : List ℕ) → TimesLeft h c k times → k ≡ row_length h c → NoTimes h times
-unfolding times_in row_length
-left_none h c k times t e = record { long = t.long; each = λ x m. omega (arith, t.each x m, ap (count_below (stands_at (list_at h.rows c) x)) e) }
-
-pub ups_in : (h : Held) (c : ℕ) (ups : List ℕ) → Ups h c ups → UpsIn h c 0 ups
-ups_in h c ups u = record { long = u.long; each = λ x m. omega (arith, u.each x m, ap (λ (n : ℕ). one (ltb (row_length h c) (row_length h x)) * n) (count_none (stands_at (list_at h.rows c) (neg x))) ∙ mul-zero (one (ltb (row_length h c) (row_length h x)))) }
-
-pub ups_next : (h : Held) (c k : ℕ) (ups : List ℕ) → UpsIn h c k ups → k ≡ row_length h c → Ups h (c + 1) ups
-unfolding up_from times_in row_length
-ups_next h c k ups u e = record {
-  long = u.long;
-  each = λ x m. u.each x m ∙ ap (λ (n : ℕ). sum_below (up_from h x) c + one (ltb (row_length h c) (row_length h x)) * count_below (stands_at (list_at h.rows c) (neg x)) n) e ∙ sym (sum_more (up_from h x) c);
-}
-
--- ---- bounds
+-- ---- one more entry of a row is counted
 
 count_mono : (f : ℕ → Bool) (i n : ℕ) → i ≤ n → count_below f i ≤ count_below f n
 unfolding count_below
 count_mono f i zero l = let e : i ≡ 0 = omega arith in rw e (omega arith)
 count_mono f i (suc n) l = ⊎_elim (λ q. omega (arith, ap (count_below f) q)) (λ q. omega (arith, count_mono f i n (le_of_suc-le-suc q))) (eq-or-lt_of_le l)
+
+module _ (row : List ℕ) (k : ℕ) where
+  count_here : (x : ℕ) → at row k ≡ x → count_below (stands_at row x) (k + 1) ≡ count_below (stands_at row x) k + 1
+  unfolding stands_at
+  count_here x e = count_more (stands_at row x) k ∙ ap (λ (t : Bool). count_below (stands_at row x) k + one t) (eq-eqb (at row k) x e)
+
+  count_other : (x : ℕ) → (at row k ≡ x → ⊥) → count_below (stands_at row x) (k + 1) ≡ count_below (stands_at row x) k
+  unfolding stands_at
+  count_other x n = count_more (stands_at row x) k ∙ ap (λ (t : Bool). count_below (stands_at row x) k + one t) (ne_eqb (at row k) x n) ∙ omega arith
+
+  pub times_more : (times : List ℕ) → Times row k times → at row k < 131072 → Times row (k + 1) (set times (at row k) (at times (at row k) + 1))
+  times_more times t l = record { long = length-set times (at row k) (at times (at row k) + 1) ∙ t.long; each = λ x. go x (ℕ_discrete (at row k) x) }
+    where
+      go : (x : ℕ) → Dec (at row k ≡ x) → at (set times (at row k) (at times (at row k) + 1)) x ≡ count_below (stands_at row x) (k + 1)
+      go x (yes e) = omega (arith, get_or-set_at times (at row k) x (at times (at row k) + 1) 0 (sym e) (omega (arith, t.long)), ap (at times) e, t.each x, count_here x e)
+      go x (no n) = get_or-set_other times (at row k) x (at times (at row k) + 1) 0 (λ e. n (sym e)) ∙ t.each x ∙ sym (count_other x n)
+
+  pub times_few : (times : List ℕ) → Times row k times → (x : ℕ) → at times x ≤ k
+  times_few times t x = omega (arith, t.each x, count_le (stands_at row x) k)
+
+  pub left_more : (times : List ℕ) → TimesLeft row k times → at row k < 131072 → 0 < at times (at row k) → TimesLeft row (k + 1) (set times (at row k) (at times (at row k) - 1))
+  left_more times t l p = record { long = length-set times (at row k) (at times (at row k) - 1) ∙ t.long; each = λ x. go x (ℕ_discrete (at row k) x) }
+    where
+      go : (x : ℕ) → Dec (at row k ≡ x) → at (set times (at row k) (at times (at row k) - 1)) x + count_below (stands_at row x) (k + 1) ≡ count_below (stands_at row x) (length row)
+      go x (yes e) = omega (arith, get_or-set_at times (at row k) x (at times (at row k) - 1) 0 (sym e) (omega (arith, t.long)), ap (at times) e, t.each x, count_here x e)
+      go x (no n) = omega (arith, get_or-set_other times (at row k) x (at times (at row k) - 1) 0 (λ e. n (sym e)), t.each x, count_other x n)
+
+  -- an entry that is still counted
+  pub left_some : (times : List ℕ) → TimesLeft row k times → k < length row → 0 < at times (at row k)
+  left_some times t l = omega (arith, t.each (at row k), count_here (at row k) refl, count_mono (stands_at row (at row k)) (k + 1) (length row) (omega arith))
+
+-- where nothing is counted, it is nothing of any row
+pub times_none : (row other times : List ℕ) → Times row 0 times → Times other 0 times
+times_none row other times t = record { long = t.long; each = λ x. t.each x ∙ count_none (stands_at row x) ∙ sym (count_none (stands_at other x)) }
+
+pub left_all : (row times : List ℕ) → Times row (length row) times → TimesLeft row 0 times
+left_all row times t = record { long = t.long; each = λ x. omega (arith, t.each x, count_none (stands_at row x)) }
+
+pub left_none : (row times : List ℕ) (k : ℕ) → TimesLeft row k times → k ≡ length row → Times row 0 times
+left_none row times k t e = record { long = t.long; each = λ x. omega (arith, t.each x, count_none (stands_at row x), ap (count_below (stands_at row x)) e) }
+
+-- how often a number stands in a row, as the library and as the rules count it
+count_is : (row : List ℕ) (x : ℕ) → count_by (λ y. eqb y x) row ≡ count_below (stands_at row x) (length row)
+unfolding count_below stands_at
+count_is row x = rw take-length at (so_far (length row) (omega arith))
+  where
+    so_far : (k : ℕ) → k ≤ length row → count_by (λ y. eqb y x) (take k row) ≡ count_below (stands_at row x) k
+    so_far zero l = refl
+    so_far (suc k) l =
+        elim (cases_Bool (eqb (at row k) x)) [
+          | inl e ↦ omega (arith, ap (λ n. count_by (λ y. eqb y x) (take n row)) (add-one k), count_by_more_yes (λ y. eqb y x) row k 0 (omega arith) e, so_far k (omega arith), ap one e)
+          | inr e ↦ omega (arith, ap (λ n. count_by (λ y. eqb y x) (take n row)) (add-one k), count_by_more_no (λ y. eqb y x) row k 0 (omega arith) e, so_far k (omega arith), ap one e)
+        ]
+
+-- ---- the entries that point to a longer row
+
+module _ (h : Held) (c : ℕ) (row : List ℕ) where
+  weight : ℕ → ℕ → ℕ
+  weight x n = one (ltb (length row) (row_length h x)) * n
+
+  module _ (k : ℕ) (ups : List ℕ) (u : UpsIn h c row k ups) where
+    aside : (x : ℕ) → (neg (at row k) ≡ x → ⊥) → weight x (count_below (stands_at row (neg x)) (k + 1)) ≡ weight x (count_below (stands_at row (neg x)) k)
+    aside x n = ap (weight x) (count_other row k (neg x) (λ e. n (ap neg e ∙ neg_neg x)))
+
+    pub up_skip : row_length h (neg (at row k)) ≤ length row → UpsIn h c row (k + 1) ups
+    unfolding weight
+    up_skip l = record { long = u.long; each = λ x m. u.each x m ∙ ap (λ (n : ℕ). sum_below (up_from h x) c + n) (go x (ℕ_discrete (neg (at row k)) x)) }
+      where
+        go : (x : ℕ) → Dec (neg (at row k) ≡ x) → weight x (count_below (stands_at row (neg x)) k) ≡ weight x (count_below (stands_at row (neg x)) (k + 1))
+        go x (yes e) = let q : ltb (length row) (row_length h x) ≡ false = le-ltb _ _ (subst (λ (y : ℕ). row_length h y ≤ length row) e l) in rw q (omega (arith, zero-mul (count_below (stands_at row (neg x)) k), zero-mul (count_below (stands_at row (neg x)) (k + 1))))
+        go x (no n) = sym (aside x n)
+
+    pub up_more : length row < row_length h (neg (at row k)) → neg (at row k) < 131072 → UpsIn h c row (k + 1) (set ups (neg (at row k)) (at ups (neg (at row k)) + 1))
+    unfolding weight
+    up_more l d = record { long = length-set ups (neg (at row k)) (at ups (neg (at row k)) + 1) ∙ u.long; each = λ x m. go x m (ℕ_discrete (neg (at row k)) x) }
+      where
+        go : (x : ℕ) → x < 2 * h.vars → Dec (neg (at row k) ≡ x) → at (set ups (neg (at row k)) (at ups (neg (at row k)) + 1)) x ≡ sum_below (up_from h x) c + weight x (count_below (stands_at row (neg x)) (k + 1))
+        go x m (yes e) =
+            let q : ltb (length row) (row_length h x) ≡ true = lt-ltb _ _ (subst (λ (y : ℕ). length row < row_length h y) e l) in
+            let now : at ups x ≡ sum_below (up_from h x) c + weight x (count_below (stands_at row (neg x)) k) = u.each x m in
+            let one_more : weight x (count_below (stands_at row (neg x)) (k + 1)) ≡ weight x (count_below (stands_at row (neg x)) k) + 1 =
+            rw q (omega (arith, count_here row k (neg x) (sym (neg_neg (at row k)) ∙ ap neg e))) in
+            omega (arith, get_or-set_at ups (neg (at row k)) x (at ups (neg (at row k)) + 1) 0 (sym e) (omega (arith, u.long)), ap (at ups) e, now, one_more)
+        go x m (no n) = get_or-set_other ups (neg (at row k)) x (at ups (neg (at row k)) + 1) 0 (λ e. n (sym e)) ∙ u.each x m ∙ ap (λ (n : ℕ). sum_below (up_from h x) c + n) (sym (aside x n))
+
+  module _ (e : row ≡ list_at h.rows c) where
+    pub ups_in : (ups : List ℕ) → Ups h c ups → UpsIn h c row 0 ups
+    ups_in ups u = record { long = u.long; each = λ x m. omega (arith, u.each x m, ap (λ (n : ℕ). one (ltb (length row) (row_length h x)) * n) (count_none (stands_at row (neg x))) ∙ mul-zero (one (ltb (length row) (row_length h x)))) }
+
+    pub ups_next : (ups : List ℕ) (k : ℕ) → UpsIn h c row k ups → k ≡ length row → Ups h (c + 1) ups
+    unfolding up_from times_in row_length
+    ups_next ups k u q = record {
+      long = u.long;
+      each = λ x m. u.each x m ∙ rw (q, e) (sym (sum_more (up_from h x) c));
+    }
+
+    -- ---- an entry that points to a shorter row, or not
+
+    points : (k : ℕ) → down_at h c k ≡ ltb (row_length h (neg (at row k))) (length row)
+    unfolding down_at shorter row_length
+    points k = rw e
+
+    pub down_yes : (k : ℕ) {n : ℕ} → n ≡ count_below (down_at h c) k → row_length h (neg (at row k)) < length row → n + 1 ≡ count_below (down_at h c) (k + 1)
+    down_yes k p l = count_yes (down_at h c) k p refl (points k ∙ lt-ltb _ _ l)
+
+    pub down_no : (k : ℕ) {n : ℕ} → n ≡ count_below (down_at h c) k → length row ≤ row_length h (neg (at row k)) → n ≡ count_below (down_at h c) (k + 1)
+    down_no k p l = count_no (down_at h c) k p refl (points k ∙ le-ltb _ _ l)
+
+    pub down_few : (k : ℕ) {n : ℕ} → n ≡ count_below (down_at h c) k → n ≤ k
+    down_few k p = omega (arith, count_le (down_at h c) k)
+
+    pub down_end : (k : ℕ) {n : ℕ} → n ≡ count_below (down_at h c) k → k ≡ length row → n ≡ down h c
+    unfolding down row_length
+    down_end k p q = p ∙ rw (q, e)
+
+    -- ---- the test of an entry
+
+    pub sparse_skip : (k : ℕ) → length row < row_length h (neg (at row k)) → sparse_at h c k ≡ true
+    unfolding sparse_at row_length
+    sparse_skip k l = or_left _ _ (lt-ltb _ _ (rw e at l))
+
+    pub sparse_test : (k other : ℕ) → other ≡ neg (at row k) → row_length h other ≤ length row
+        → (times : List ℕ) → Times (list_at h.rows c) (row_length h c) times
+        → (there : List ℕ) → there ≡ list_at h.rows other → (x : ℕ) → x ≡ neg c → {n : ℕ} → n ≡ count_by (λ y. eqb y x) there
+        → sparse_at h c k ≡ eqb (at times (at row k)) n
+    unfolding sparse_at entry_even times_in row_length
+    sparse_test k other q l times t there f x g p =
+        let n = rw (f, g, q) at p in
+        rw (← e, le-ltb _ _ (rw q at l)) (ap₂ eqb (sym (rw (← e) at (t.each (at row k)))) (sym (n ∙ count_is _ _)))
+
+-- ---- rows whose entries are in range
 
 one_mul_le : (t : Bool) (n : ℕ) → one t * n ≤ n
 one_mul_le true n = omega (arith, one-mul n)
@@ -124,112 +180,55 @@ up_le : (h : Held) (x j : ℕ) → up_from h x j ≤ row_length h j
 unfolding up_from times_in row_length
 up_le h x j = omega (arith, one_mul_le (ltb (row_length h j) (row_length h x)) (times_in h j (neg x)), count_le (stands_at (list_at h.rows j) (neg x)) (length (list_at h.rows j)))
 
--- entry k of the row of c is b
-pub record Entry (v : ℕ) (rows counts : List ℕ) (c k b : ℕ) : Type 0 where
-  pub sized : RowsSized v rows counts
-  pub ranged : rows_in_range (rows_in v rows counts) ≡ true
-  pub row : c < 2 * v
-  pub place : k < row_length (rows_in v rows counts) c
-  pub is : b ≡ at (list_at (rows_in v rows counts).rows c) k
+module _ (s : RangedRows) where
+  -- what is numbered for a row by the rows below c is at most all entries
+  sum_small : (x c : ℕ) → c ≤ 2 * s.rows.vars → sum_below (up_from (held s.rows) x) c ≤ 2 ^ 24
+  sum_small x c l = omega (arith, sum_mono (up_from (held s.rows) x) (row_length (held s.rows)) c (λ j q. up_le (held s.rows) x j), sum_in _ _ _ s.rows.sized c l refl)
 
-module _ {v : ℕ} {rows counts : List ℕ} {c k b : ℕ} (E : Entry v rows counts c k b) where
-  -- an entry is a code, and so is its partner's row
-  pub entry_code : b < 2 * v
-  entry_code = omega (arith, entry_below (rows_in v rows counts) E.ranged c k E.row E.place, E.is)
+  module _ (c : ℕ) (l : c < 2 * s.rows.vars) (row : List ℕ) (e : row ≡ list_at (held s.rows).rows c) where
+    pub entry_code : (k : ℕ) → k < length row → at row k < 2 * s.rows.vars
+    unfolding row_length
+    entry_code k m = rw e (entry_below (held s.rows) s.ranged c k l (rw e at m))
 
-  pub entry_place : b < 131072
-  entry_place = omega (arith, entry_code, E.sized.most)
+    pub partner_code : (k : ℕ) → k < length row → neg (at row k) < 2 * s.rows.vars
+    partner_code k m = neg_lt (at row k) s.rows.vars (entry_code k m)
 
-  pub partner_code : neg b < 2 * v
-  partner_code = neg_lt b v entry_code
+    pub row_codes : Codes row
+    unfolding row_length
+    row_codes = record { few = omega (arith, ap length e, sum_with _ _ _ s.rows.sized c l refl refl); each = λ k m. omega (arith, entry_code k m, s.rows.sized.most) }
 
-  pub partner_place : neg b < 131072
-  partner_place = omega (arith, partner_code, E.sized.most)
+    pub ups_small : (k : ℕ) → k < length row → (ups : List ℕ) → UpsIn (held s.rows) c row k ups → at ups (neg (at row k)) < 2 ^ 25
+    ups_small k m ups u =
+        let x = neg (at row k) in
+        omega (arith, u.each x (partner_code k m), sum_small x c (omega arith), one_mul_le (ltb (length row) (row_length (held s.rows) x)) (count_below (stands_at row (neg x)) k), count_le (stands_at row (neg x)) k, row_codes.few)
 
-  len_small : row_length (rows_in v rows counts) c ≤ 2 ^ 24
-  len_small = omega (arith, sum_with v rows counts E.sized c E.row refl refl)
+-- ---- the test of a row
 
-  pub times_small : (times : List ℕ) → Times (rows_in v rows counts) c k times → at times b < 2 ^ 24
-  times_small times t = omega (arith, t.each b entry_code, count_le (stands_at (list_at (rows_in v rows counts).rows c) b) k, len_small, E.place)
+module _ (h : Held) (c : ℕ) {a : Bool} (p : a ≡ all_below (sparse_at h c) (row_length h c)) where
+  pub row_out : a ≡ false → sparse_row h c ≡ false
+  unfolding sparse_row
+  row_out t = and_fails_left _ _ (sym p ∙ t)
 
-  pub times_fit : (times : List ℕ) → Times (rows_in v rows counts) c (row_length (rows_in v rows counts) c) times → at times b ≤ 2 ^ 24
-  times_fit times t = omega (arith, t.each b entry_code, count_le (stands_at (list_at (rows_in v rows counts).rows c) b) (row_length (rows_in v rows counts) c), len_small)
+  pub row_test : a ≡ true → {d u : ℕ} → d ≡ down h c → u ≡ up h c → sparse_row h c ≡ eqb d u
+  unfolding sparse_row
+  row_test t e f = sym (and_on (sym p ∙ t) (ap₂ eqb e f))
 
-  pub left_some : (times : List ℕ) → TimesLeft (rows_in v rows counts) c k times → 0 < at times b
-  unfolding times_in row_length
-  left_some times t =
-      let f = stands_at (list_at (rows_in v rows counts).rows c) b in
-      omega (arith, t.each b entry_code, count_same_as (rows_in v rows counts) c k b E.is b refl, count_mono f (k + 1) (length (list_at (rows_in v rows counts).rows c)) (omega (arith, E.place)))
-
-  pub ups_small : (ups : List ℕ) → UpsIn (rows_in v rows counts) c k ups → at ups (neg b) < 2 ^ 25
-  unfolding up_from times_in row_length
-  ups_small ups u =
-      let h = rows_in v rows counts in
-      let x = neg b in
-      let sum : sum_below (up_from h x) c ≤ 2 ^ 24 = omega (arith, sum_mono (up_from h x) (row_length h) c (λ j q. up_le h x j), sum_in v rows counts E.sized c (omega (arith, E.row)) refl) in
-      let t = one (ltb (row_length h c) (row_length h x)) in
-      let n = count_below (stands_at (list_at h.rows c) (neg x)) k in
-      omega (arith, u.each x partner_code, sum, one_mul_le (ltb (row_length h c) (row_length h x)) n, count_le (stands_at (list_at h.rows c) (neg x)) k, len_small, E.place)
-
-pub times_end : (h : Held) (c k len : ℕ) (times : List ℕ) → Times h c k times → len ≡ row_length h c → k ≤ len → len ≤ k → Times h c (row_length h c) times
-times_end h c k len times t e l g = subst (λ (n : ℕ). Times h c n times) (omega arith) t
-
--- ---- tests of an entry, and of a row
-
--- b points to a shorter row, or not
-module _ (h : Held) (r k b : ℕ) (e : b ≡ at (list_at h.rows r) k) (len other : ℕ) (el : len ≡ row_length h r) (eo : other ≡ row_length h (neg b)) where
-  points : down_at h r k ≡ ltb other len
-  unfolding down_at shorter
-  points = ap (λ (y : ℕ). ltb (row_length h (neg y)) (row_length h r)) (sym e) ∙ ap₂ ltb (sym eo) (sym el)
-
-  pub down_yes : {n : ℕ} → n ≡ count_below (down_at h r) k → other < len → n + 1 ≡ count_below (down_at h r) (k + 1)
-  down_yes p l = count_yes (down_at h r) k p refl (points ∙ lt-ltb other len l)
-
-  pub down_no : {n : ℕ} → n ≡ count_below (down_at h r) k → len ≤ other → n ≡ count_below (down_at h r) (k + 1)
-  down_no p l = count_no (down_at h r) k p refl (points ∙ le-ltb other len l)
-
-  pub sparse_skip : len < other → true ≡ sparse_at h r k
-  unfolding sparse_at
-  sparse_skip l = sym (or_left _ _ (ap (λ (y : ℕ). ltb (row_length h r) (row_length h (neg y))) (sym e) ∙ ap₂ ltb (sym el) (sym eo) ∙ lt-ltb len other l))
-
-  pub sparse_test : other ≤ len → (here there : ℕ) → here ≡ times_in h r b → there ≡ times_in h (neg b) (neg r) → eqb here there ≡ sparse_at h r k
-  unfolding sparse_at entry_even
-  sparse_test l here there p q =
-      ap₂ eqb p q ∙ ap (λ (y : ℕ). eqb (times_in h r y) (times_in h (neg y) (neg r))) e
-      ∙ sym (ap (λ (t : Bool). t || entry_even h r k) (ap (λ (y : ℕ). ltb (row_length h r) (row_length h (neg y))) (sym e) ∙ ap₂ ltb (sym el) (sym eo) ∙ le-ltb len other l))
-
-pub times_there : (h : Held) (c x : ℕ) (times : List ℕ) → Times h c (row_length h c) times → x < 2 * h.vars → at times x ≡ times_in h c x
-unfolding times_in row_length
-times_there h c x times t l = t.each x l
-
-pub row_out : (h : Held) (c : ℕ) {a : Bool} → a ≡ all_below (sparse_at h c) (row_length h c) → not a ≡ true → false ≡ sparse_row h c
-unfolding sparse_row
-row_out h c p t = sym (and_fails_left _ _ (failed p t))
-
-pub row_test : (h : Held) (c : ℕ) {a : Bool} → a ≡ all_below (sparse_at h c) (row_length h c) → not a ≡ false → (d u : ℕ) → d ≡ down h c → u ≡ up h c → eqb d u ≡ sparse_row h c
-unfolding sparse_row
-row_test h c p t d u ed eu = ap₂ eqb ed eu ∙ ap (λ (b : Bool). b && eqb (down h c) (up h c)) (sym (passed p t))
-
-pub ups_there : (h : Held) (ups : List ℕ) → Ups h (2 * h.vars) ups → (c : ℕ) → c < 2 * h.vars → at ups c ≡ up h c
+pub ups_there : (h : Held) (n : ℕ) (ups : List ℕ) → Ups h n ups → n ≡ 2 * h.vars → (c : ℕ) → c < 2 * h.vars → at ups c ≡ up h c
 unfolding up
-ups_there h ups u c l = u.each c l
+ups_there h n ups u e c l = u.each c l ∙ ap (sum_below (up_from h c)) e
 
--- nothing is numbered at first
-pub no_ups : (h : Held) (ups : List ℕ) → ups ≡ replicate 131072 0 → h.vars ≤ 65536 → Ups h 0 ups
-no_ups h ups e l = record {
-  long = ap length e ∙ length-replicate {A = ℕ} 131072 0;
-  each = λ x m. ap (λ (a : List ℕ). at a x) e ∙ get_or-replicate {A = ℕ} 131072 x 0 0 (omega arith) ∙ sym (sum_none (up_from h x));
+-- nothing is numbered at first, and nothing counted
+pub no_ups : (h : Held) → h.vars ≤ 65536 → Ups h 0 (replicate 131072 0)
+no_ups h l = record {
+  long = length-replicate {A = ℕ} 131072 0;
+  each = λ x m. get_or-replicate {A = ℕ} 131072 x 0 0 (omega arith) ∙ sym (sum_none (up_from h x));
 }
 
-pub no_times : (h : Held) (times : List ℕ) → times ≡ replicate 131072 0 → h.vars ≤ 65536 → NoTimes h times
-no_times h times e l = record {
-  long = ap length e ∙ length-replicate {A = ℕ} 131072 0;
-  each = λ x m. ap (λ (a : List ℕ). at a x) e ∙ get_or-replicate {A = ℕ} 131072 x 0 0 (omega arith);
+pub no_times : Times [] 0 (replicate 131072 0)
+no_times = record {
+  long = length-replicate {A = ℕ} 131072 0;
+  each = λ x. elim (cases_lt x 131072) [
+    | inl l ↦ get_or-replicate {A = ℕ} 131072 x 0 0 l ∙ sym (count_none (stands_at [] x))
+    | inr l ↦ get_or_past (replicate {A = ℕ} 131072 0) x 0 (rw length-replicate l) ∙ sym (count_none (stands_at [] x))
+  ];
 }
-
-pub ups_end : (h : Held) (c n : ℕ) (ups : List ℕ) → Ups h c ups → c ≤ n → n ≤ c → Ups h n ups
-ups_end h c n ups u l g = subst (λ (m : ℕ). Ups h m ups) (omega arith) u
-
--- what is numbered for a row is at most all entries
-pub ups_fit : (v : ℕ) (rows counts : List ℕ) → RowsSized v rows counts → (ups : List ℕ) → Ups (rows_in v rows counts) (2 * v) ups → (c : ℕ) → c < 2 * v → at ups c ≤ 2 ^ 24
-ups_fit v rows counts z ups u c l = omega (arith, u.each c l, sum_mono (up_from (rows_in v rows counts) c) (row_length (rows_in v rows counts)) (2 * v) (λ j q. up_le (rows_in v rows counts) c j), sum_in v rows counts z (2 * v) (omega arith) refl)

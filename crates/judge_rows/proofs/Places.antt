@@ -5,13 +5,13 @@ use Prim.Native.Nat.{ℕ, zero, suc, ◌+◌, ◌-◌, ◌*◌, ◌^◌, ◌≤�
 use native.Mathlib.Omega.{arith}
 use native.Mathlib.Nat.{zero-mul, suc-mul, mul-le-mul_right, mul-div-le, le_of_suc-le-suc, not-suc-le-zero}
 use lib.ListN.{length, take, drop, length-drop}
-use lib.Seq.{drop-drop, get_or-take, get_or-drop, length-take-le}
-use Rattle.laws.specs.Fold.{count_below, sum_below}
+use lib.Seq.{drop-drop, length-take-le}
+use Rattle.laws.specs.Fold.{sum_below}
 use Rattle.laws.specs.Lists.{at, list_at}
 use Rattle.laws.proofs.Totals.{sum_le, sum_next}
 use Rattle.kinds.specs.Lent.{room_of}
 use Rattle.kinds.specs.Layout.{rows_of}
-use Rattle.calls.specs.StorePasses.{stands_at, times_in, row_length}
+use Rattle.calls.specs.StorePasses.{row_length}
 use Rattle.judge_rows.specs.Rows.{rows_in, RowsSized}
 
 -- "a row of literals per code in one buffer": row c begins behind c rooms
@@ -35,26 +35,9 @@ module _ (v : ℕ) (rows counts : List ℕ) (z : RowsSized v rows counts) (c : �
   unfolding row_length
   length_is = sym (ap length row_is ∙ length-take-le (at counts c) (drop (c * room_of v rows) rows) (omega (arith, length-drop (c * room_of v rows) rows, row_ends, z.fits c h)))
 
-  module _ (k : ℕ) (g : k < row_length (rows_in v rows counts) c) where
-    pub entry_in : c * room_of v rows + k < length rows
-    entry_in = omega (arith, row_ends, length_is, z.fits c h)
-
-    pub entry_is : at rows (c * room_of v rows + k) ≡ at (list_at (rows_in v rows counts).rows c) k
-    entry_is = sym (ap (λ (l : List ℕ). at l k) row_is ∙ get_or-take (at counts c) (drop (c * room_of v rows) rows) k 0 (omega (arith, length_is)) ∙ get_or-drop (c * room_of v rows) rows k 0)
-
--- the part of the buffer that holds the row of the code c
-module _ (v : ℕ) (rows counts : List ℕ) (z : RowsSized v rows counts) (c : ℕ) (h : c < 2 * v) (len : ℕ) (e : len ≡ row_length (rows_in v rows counts) c) where
-  pub part_ends : c * room_of v rows + len ≤ length rows
-  part_ends = omega (arith, row_ends v rows counts z c h, length_is v rows counts z c h, z.fits c h)
-
-  pub times_is : (x : ℕ) {r : ℕ}
-      → r ≡ count_below (stands_at (take (c * room_of v rows + len - c * room_of v rows) (drop (c * room_of v rows) rows)) x) (length (take (c * room_of v rows + len - c * room_of v rows) (drop (c * room_of v rows) rows)))
-      → r ≡ times_in (rows_in v rows counts) c x
-  unfolding times_in
-  times_is x p =
-      let d : c * room_of v rows + len - c * room_of v rows ≡ at counts c = omega (arith, length_is v rows counts z c h) in
-      let same = ap (λ (n : ℕ). take n (drop (c * room_of v rows) rows)) d ∙ sym (row_is v rows counts z c h) in
-      p ∙ ap (λ (l : List ℕ). count_below (stands_at l x) (length l)) same
+  -- the part of the buffer from the row's beginning to its end
+  pub part_is : take (c * room_of v rows + at counts c - c * room_of v rows) (drop (c * room_of v rows) rows) ≡ list_at (rows_in v rows counts).rows c
+  part_is = let d : c * room_of v rows + at counts c - c * room_of v rows ≡ at counts c = omega arith in rw d (sym row_is)
 
 -- all rows lie in the buffer
 module _ (v : ℕ) (rows counts : List ℕ) (z : RowsSized v rows counts) where

@@ -2,38 +2,33 @@
 use mathlib.Core.Path.{◌≡◌, refl, sym, ap, ap₂, ◌∙◌}
 use mathlib.Core.Bool.{Bool, true, false, not, ◌&&◌}
 use mathlib.Core.List.{List}
-use Prim.Native.Nat.{ℕ, ◌+◌, ◌*◌, ◌/◌, ◌≤◌, ◌<◌}
+use mathlib.Core.Logic.{◌↔◌, ◌≢◌}
+use Prim.Native.Nat.{ℕ, ◌*◌, ◌/◌, ◌<◌}
 use native.Mathlib.Omega.{arith}
 use lib.ListN.{length}
-use lib.Dec.{eqb}
-use borrow.Author.Tests.{lt-ltb, le-ltb, eq-eqb, ne_eqb, not-true, not-false}
-use Rattle.laws.specs.Fold.{count_below, sum_below}
+use lib.Dec.{eqb, leb}
+use borrow.Author.Tests.{ltb-true, eqb-false, lt-ltb, lt-leb, ne_eqb, not-true}
+use Rattle.std.proofs.lemmas.Bool.{and_from, and_parts}
+use Rattle.laws.specs.Fold.{sum_below}
 use Rattle.laws.specs.Lists.{at, list_at}
-use Rattle.laws.proofs.Folds.{and_fails_left, and_fails_right, all_same}
+use Rattle.laws.proofs.Loops.{and_cut, and_on}
+use Rattle.laws.proofs.Chains.{all_iff}
+use Rattle.laws.proofs.Folds.{all_same}
 use Rattle.laws.proofs.Sums.{sum_same}
-use Rattle.laws.proofs.Totals.{count_yes, count_no}
 use Rattle.kinds.specs.Held.{Held}
-use Rattle.calls.specs.StorePasses.{stands_at, row_entry_ok, row_in_range, rows_in_range, times_in, symmetric_at, symmetric_with, rows_symmetric, row_length, binary_ok, rows_pass}
+use Rattle.calls.specs.StorePasses.{row_entry_ok, row_in_range, rows_in_range, times_in, symmetric_at, symmetric_with, rows_symmetric, row_length, binary_ok, rows_pass}
 use Rattle.judge_rows.specs.Rows.{holding}
 
-module _ (h : Held) (c k b : ℕ) (e : b ≡ at (list_at h.rows c) k) where
-  pub range_no : 2 * h.vars ≤ b → false ≡ row_entry_ok h c k
-  unfolding row_entry_ok
-  range_no q = simp (← e, le-ltb b (2 * h.vars) q)
-
-  pub range_test : b < 2 * h.vars → not (eqb (b / 2) (c / 2)) ≡ row_entry_ok h c k
-  unfolding row_entry_ok
-  range_test q = simp (← e, lt-ltb b (2 * h.vars) q)
-
--- the count of x, up to entry k of a row and with it
-module _ (row : List ℕ) (k b : ℕ) (e : b ≡ at row k) (x : ℕ) {n m : ℕ} (p : n ≡ count_below (stands_at row x) k) where
-  pub times_yes : m ≡ n + 1 → b ≡ x → m ≡ count_below (stands_at row x) (k + 1)
-  unfolding stands_at
-  times_yes q f = count_yes (stands_at row x) k p q (eq-eqb (at row k) x (sym e ∙ f))
-
-  pub times_no : m ≡ n → (b ≡ x → ⊥) → m ≡ count_below (stands_at row x) (k + 1)
-  unfolding stands_at
-  times_no q f = count_no (stands_at row x) k p q (ne_eqb (at row k) x (λ g. f (e ∙ g)))
+pub row_in_range_is : (h : Held) (c : ℕ) (row : List ℕ) → row ≡ list_at h.rows c → {r : Bool}
+    → ((r ≡ true) ↔ ((k : ℕ) → k < length row → (at row k < 2 * h.vars) × (at row k / 2 ≢ c / 2)))
+    → r ≡ row_in_range h c
+unfolding row_in_range row_entry_ok
+row_in_range_is h c row e p =
+    let q = rw e at p in
+    all_iff _ _ (
+      λ t k l. let u = q.0 t k l in and_from _ _ (lt-ltb _ _ u.0) (ap not (ne_eqb _ _ u.1)),
+      λ t. q.1 (λ k l. let u = and_parts _ _ (t k l) in (ltb-true _ _ u.0, eqb-false _ _ (not-true _ u.1))),
+    )
 
 -- ---- the whole
 
@@ -50,16 +45,16 @@ rows_alone h =
 
 -- each way out of `rows_pass`
 module _ (h : Held) {r : Bool} (p : r ≡ rows_in_range (holding h.vars h.rows)) where
-  pub pass_range : not r ≡ true → false ≡ rows_pass h
-  pass_range t = sym (rows_alone h ∙ and_fails_left _ _ (sym p ∙ not-true _ t))
+  pub pass_range : r ≡ false → false ≡ rows_pass h
+  pass_range t = and_cut _ (sym p ∙ t) ∙ sym (rows_alone h)
 
-  module _ {s : Bool} (f : not r ≡ false) (q : s ≡ rows_symmetric (holding h.vars h.rows)) where
-    pub pass_symmetric : not s ≡ true → false ≡ rows_pass h
-    pass_symmetric t = sym (rows_alone h ∙ and_fails_right (rows_in_range (holding h.vars h.rows)) _ (and_fails_left _ _ (sym q ∙ not-true _ t)))
+  module _ {s : Bool} (f : r ≡ true) (q : s ≡ rows_symmetric (holding h.vars h.rows)) where
+    pub pass_symmetric : s ≡ false → false ≡ rows_pass h
+    pass_symmetric t = and_on (sym p ∙ f) (and_cut _ (sym q ∙ t)) ∙ sym (rows_alone h)
 
-    module _ {n : ℕ} (g : not s ≡ false) (e : n ≡ sum_below (row_length (holding h.vars h.rows)) (2 * h.vars)) where
+    module _ {n : ℕ} (g : s ≡ true) (e : n ≡ sum_below (row_length (holding h.vars h.rows)) (2 * h.vars)) where
       pub pass_test : eqb (h.binary * 2) n ≡ rows_pass h
-      pass_test = sym (rows_alone h ∙ simp (← p, not-false r f, ← q, not-false s g, ← e))
+      pass_test = and_on (sym p ∙ f) (and_on (sym q ∙ g) (ap (eqb (h.binary * 2)) e)) ∙ sym (rows_alone h)
 
-      pub pass_many : n < h.binary → false ≡ rows_pass h
-      pass_many t = sym (ne_eqb (h.binary * 2) n (λ z. omega arith)) ∙ pass_test
+      pub pass_many : n < h.binary → leb h.binary n ≡ rows_pass h
+      pass_many t = lt-leb h.binary n t ∙ sym (ne_eqb (h.binary * 2) n (λ z. omega arith)) ∙ pass_test

@@ -1,5 +1,5 @@
 -- Symmetry at the cost of the shorter row: an entry is counted in its partner's row only where that row is not the longer one, and the entries that are not are only numbered.
-use Rattle.std.specs.Prelude.{◌≡◌, Bool, ◌&&◌, ◌||◌, List, ℕ, ◌+◌, ◌*◌, ◌<◌, length, eqb, ltb}
+use Rattle.std.specs.Prelude.{◌≡◌, Bool, ◌&&◌, ◌||◌, List, ℕ, ◌+◌, ◌*◌, ◌^◌, ◌≤◌, ◌<◌, length, eqb, ltb}
 use Rattle.laws.specs.Fold.{all_below, one, count_below, sum_below}
 use Rattle.laws.specs.Lists.{at, list_at}
 use Rattle.kinds.specs.Clauses.{neg}
@@ -33,27 +33,25 @@ sparse_row h r = all_below (sparse_at h r) (row_length h r) && eqb (down h r) (u
 
 -- ---- what the code keeps by code: the entries of the rows below c, and of the first k of the row of c
 
-abbrev pub up_so_far : Held → ℕ → ℕ → ℕ → ℕ
-up_so_far h c k x = sum_below (up_from h x) c + one (ltb (row_length h c) (row_length h x)) * count_below (stands_at (list_at h.rows c) (neg x)) k
-
 pub record Ups (h : Held) (c : ℕ) (ups : List ℕ) : Type 0 where
   pub long : length ups ≡ 131072
   pub each : (x : ℕ) → x < 2 * h.vars → at ups x ≡ sum_below (up_from h x) c
 
-pub record UpsIn (h : Held) (c k : ℕ) (ups : List ℕ) : Type 0 where
+pub record UpsIn (h : Held) (c : ℕ) (row : List ℕ) (k : ℕ) (ups : List ℕ) : Type 0 where
   pub long : length ups ≡ 131072
-  pub each : (x : ℕ) → x < 2 * h.vars → at ups x ≡ up_so_far h c k x
+  pub each : (x : ℕ) → x < 2 * h.vars → at ups x ≡ sum_below (up_from h x) c + one (ltb (length row) (row_length h x)) * count_below (stands_at row (neg x)) k
 
--- how often each code stands among the first k entries of the row of c
-pub record Times (h : Held) (c k : ℕ) (times : List ℕ) : Type 0 where
+-- entries that are numbers of a table by code, and few enough to be counted there
+pub record Codes (row : List ℕ) : Type 0 where
+  pub few : length row ≤ 2 ^ 24
+  pub each : (k : ℕ) → k < length row → at row k < 131072
+
+-- how often each number stands among the first k entries of a row
+pub record Times (row : List ℕ) (k : ℕ) (times : List ℕ) : Type 0 where
   pub long : length times ≡ 131072
-  pub each : (x : ℕ) → x < 2 * h.vars → at times x ≡ count_below (stands_at (list_at h.rows c) x) k
+  pub each : (x : ℕ) → at times x ≡ count_below (stands_at row x) k
 
 -- .. among the entries from k on
-pub record TimesLeft (h : Held) (c k : ℕ) (times : List ℕ) : Type 0 where
+pub record TimesLeft (row : List ℕ) (k : ℕ) (times : List ℕ) : Type 0 where
   pub long : length times ≡ 131072
-  pub each : (x : ℕ) → x < 2 * h.vars → at times x + count_below (stands_at (list_at h.rows c) x) k ≡ times_in h c x
-
-pub record NoTimes (h : Held) (times : List ℕ) : Type 0 where
-  pub long : length times ≡ 131072
-  pub each : (x : ℕ) → x < 2 * h.vars → at times x ≡ 0
+  pub each : (x : ℕ) → at times x + count_below (stands_at row x) k ≡ count_below (stands_at row x) (length row)

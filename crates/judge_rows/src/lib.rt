@@ -1,285 +1,204 @@
 // Judging the rows: "Row entries are in range. Rows are symmetric: b stands in the row of not-a as often as a in the row of not-b, a and b of different variables. The binary count is half the entries."
 #![tactic(auto)]
 
-ghost use Rattle.std.specs.Prelude.{◌≡◌, true, ℕ, ◌+◌, ◌*◌, ◌≤◌, ◌<◌, ◌^◌, length};
-ghost use Rattle.laws.specs.Fold.{all_below, count_below, sum_below};
-ghost use Rattle.laws.specs.Lists.{at, list_at};
-ghost use Rattle.kinds.specs.Lent.{room_of};
+ghost use Rattle.std.specs.Prelude.{◌≡◌, ◌≢◌, ◌↔◌, true, IsTrue, ◌*◌, ◌/◌, ◌≤◌, ◌<◌, ◌^◌, ◌==◌, length, slice_index, count_by, EachIndex};
 ghost use Rattle.kinds.specs.Held.{with_binary};
-ghost use Rattle.calls.specs.StorePasses.{stands_at, row_entry_ok, row_in_range, rows_in_range, times_in, rows_symmetric, row_length, rows_pass};
+ghost use Rattle.calls.specs.StorePasses.{rows_in_range, rows_pass};
 ghost use Rattle.judge_rows.specs.Rows.{rows_in, RowsSized};
-ghost use Rattle.judge_rows.specs.Sparse.{down, sparse_at, sparse_row, Ups, Times, NoTimes};
+ghost use Rattle.judge_rows.specs.Sparse.{Codes, Times};
 
-use buffers::word;
+use kinds::Lit;
 
-// ---- reading a row: all else goes by these two
-
-// The number of entries in the row of the code c.
-fn row_length(vars: usize, rows: &[u32], counts: &[u32], c: usize) -> usize
-    requires { RowsSized vars rows.now counts.now × (c < 2 * vars) }
-    ensures { (result ≡ row_length (rows_in vars rows.now counts.now) c) × (result ≤ room_of vars rows.now) }
+// The entries of the row of the code c are codes, of other variables than c.
+fn row_in_range(row: &[u32], vars: usize, c: usize) -> bool
+    requires { vars ≤ 65536 }
+    ensures { IsTrue result ↔ EachIndex row.now (λ k. (slice_index row.now k < 2 * vars) × (slice_index row.now k / 2 ≢ c / 2)) }
 {
-    word(counts, c)
+    row.iter()
+        .all(|b| (*b as usize) < 2 * vars && *b as usize / 2 != c / 2)
 }
 
-// Entry k of the row of the code c.
-fn row_entry(vars: usize, rows: &[u32], counts: &[u32], c: usize, k: usize) -> usize
-    requires { RowsSized vars rows.now counts.now × (c < 2 * vars) × (k < row_length (rows_in vars rows.now counts.now) c) }
-    ensures { (result ≡ at (list_at (rows_in vars rows.now counts.now).rows c) k) × (result < 2 ^ 32) }
-{
-    let room = rows.len() / (2 * vars);
-    word(rows, c * room + k)
+// The rows as they are lent: a row for each code, in equal rooms of one buffer.
+#[derive(Clone, Copy)]
+struct Rows<'a> {
+    vars: usize,
+    rows: &'a [u32],
+    counts: &'a [u32],
+    ghost sized: { RowsSized vars rows.now counts.now },
 }
 
-// ---- "Row entries are in range", and of another variable than the row's code
+impl<'a> Rows<'a> {
+    ghost use Rattle.std.specs.Prelude.{◌≡◌, ◌*◌, ◌<◌, ◌≤◌, ◌^◌};
+    ghost use Rattle.laws.specs.Fold.{sum_below};
+    ghost use Rattle.laws.specs.Lists.{list_at};
+    ghost use Rattle.calls.specs.StorePasses.{rows_in_range, row_length};
+    ghost use Rattle.judge_rows.specs.Held.{held};
 
-fn entry_in_range(vars: usize, rows: &[u32], counts: &[u32], c: usize, k: usize) -> bool
-    requires { RowsSized vars rows.now counts.now × (c < 2 * vars) × (k < row_length (rows_in vars rows.now counts.now) c) }
-    ensures { result ≡ row_entry_ok (rows_in vars rows.now counts.now) c k }
-{
-    let b = row_entry(vars, rows, counts, c, k);
-    if 2 * vars <= b {
-        return false;
+    // The length of the row of the code c.
+    fn len(self, c: usize) -> usize
+        requires { c < 2 * self.vars }
+        ensures { result ≡ row_length (held self.entry) c }
+    {
+        self.counts[c] as usize
     }
-    b / 2 != c / 2
-}
 
-fn row_in_range(vars: usize, rows: &[u32], counts: &[u32], c: usize) -> bool
-    requires { RowsSized vars rows.now counts.now × (c < 2 * vars) }
-    ensures { result ≡ row_in_range (rows_in vars rows.now counts.now) c }
-{
-    let len = row_length(vars, rows, counts, c);
-    let mut k = 0;
-    while k < len {
-        if !entry_in_range(vars, rows, counts, c, k) {
-            return false;
+    // The row of the code c.
+    fn row(self, c: usize) -> &'a [u32]
+        requires { c < 2 * self.vars }
+        ensures { result.now ≡ list_at (held self.entry).rows c }
+    {
+        let room = self.rows.len() / (2 * self.vars);
+        let start = c * room;
+        let end = start + self.counts[c] as usize;
+        &self.rows[start..end]
+    }
+
+    // "Row entries are in range."
+    fn in_range(self) -> bool
+        ensures { result ≡ rows_in_range (held self.entry) }
+    {
+        for c in 0..2 * self.vars {
+            if !row_in_range(self.row(c), self.vars, c) {
+                return false;
+            }
         }
-        k += 1;
+        true
     }
-    true
-}
 
-fn rows_in_range(vars: usize, rows: &[u32], counts: &[u32]) -> bool
-    requires { RowsSized vars rows.now counts.now }
-    ensures { result ≡ rows_in_range (rows_in vars rows.now counts.now) }
-{
-    let mut c = 0;
-    while c < 2 * vars {
-        if !row_in_range(vars, rows, counts, c) {
-            return false;
+    // ---- "The binary count is half the entries."
+
+    fn entries(self) -> usize
+        ensures value { result ≡ sum_below (row_length (held self.entry)) (2 * self.entry.vars) }
+        ensures small { result ≤ 2 ^ 24 }
+    {
+        let mut total = 0;
+        for c in 0..2 * self.vars {
+            total += self.len(c);
         }
-        c += 1;
+        total
     }
-    true
 }
 
 // ---- "Rows are symmetric": each entry's count against its partner's
 
-// How often x stands in a row.
-fn occurs(row: &[u32], x: usize) -> usize
-    ensures { result ≡ count_below (stands_at row.now x) (length row.now) }
+// How often x stands in a row. The costliest loop here: a count of 32 bits keeps it four entries wide.
+fn occurs(row: &[u32], x: u32) -> u32
+    requires { length row.now < 2 ^ 32 }
+    ensures { result ≡ count_by (λ b. b == x) row.now }
 {
     let mut times = 0;
-    let mut k = 0;
-    while k < row.len() {
-        let b = word(row, k);
-        k += 1;
-        if b == x {
+    for b in row {
+        if *b == x {
             times += 1;
         }
     }
     times
 }
 
-// How often x stands in the row of the code c.
-fn times_in(vars: usize, rows: &[u32], counts: &[u32], c: usize, x: usize) -> usize
-    requires { RowsSized vars rows.now counts.now × (c < 2 * vars) }
-    ensures { result ≡ times_in (rows_in vars rows.now counts.now) c x }
+// How often each code stands in a row, where nothing was counted before.
+fn count(times: &mut [u32; 131072], row: &[u32])
+    requires { Codes row.now × Times row.now 0 times.old }
+    ensures { Times row.now (length row.now) times.new }
 {
-    let len = row_length(vars, rows, counts, c);
-    let start = c * (rows.len() / (2 * vars));
-    let end = start + len;
-    occurs(&rows[start..end], x)
+    for b in row {
+        times[*b as usize] += 1;
+    }
 }
 
-// The entries of the row of c that point to a longer row are numbered by that row's code. The rows' entries were found in range before.
-fn up_row(ups: &mut [u32; 131072], vars: usize, rows: &[u32], counts: &[u32], c: usize)
-    requires rows_sized { RowsSized vars rows.now counts.now × (c < 2 * vars) × Ups (rows_in vars rows.now counts.now) c ups.old }
-    requires counts_value { rows_in_range (rows_in vars rows.now counts.now) ≡ true }
-    ensures { Ups (rows_in vars rows.now counts.now) (c + 1) ups.new }
+// Nothing counted, as before `count`.
+fn uncount(times: &mut [u32; 131072], row: &[u32])
+    requires { Codes row.now × Times row.now (length row.now) times.old }
+    ensures { Times row.now 0 times.new }
 {
-    let len = row_length(vars, rows, counts, c);
-    let mut k = 0;
-    while k < len {
-        let b = row_entry(vars, rows, counts, c, k);
-        k += 1;
-        let partner = b + 1 - 2 * (b % 2);
-        let other = row_length(vars, rows, counts, partner);
-        if len < other {
-            ups[partner] += 1;
+    for b in row {
+        times[*b as usize] -= 1;
+    }
+}
+
+// Rows whose entries were found in range.
+#[derive(Clone, Copy)]
+struct RangedRows<'a> {
+    rows: Rows<'a>,
+    ghost ranged: { rows_in_range (rows_in rows.vars rows.rows.now rows.counts.now) ≡ true },
+}
+
+impl<'a> RangedRows<'a> {
+    ghost use Rattle.std.specs.Prelude.{◌≡◌, ◌+◌, ◌*◌, ◌<◌};
+    ghost use Rattle.laws.specs.Fold.{all_below};
+    ghost use Rattle.laws.specs.Lists.{list_at};
+    ghost use Rattle.calls.specs.StorePasses.{rows_symmetric, row_length};
+    ghost use Rattle.judge_rows.specs.Held.{held};
+    ghost use Rattle.judge_rows.specs.Sparse.{down, sparse_at, sparse_row, Ups, Times};
+
+    // The entries of the row of c that point to a longer row are numbered by that row's code.
+    fn up_row(self, c: usize, ups: &mut [u32; 131072])
+        requires { (c < 2 * self.rows.vars) × Ups (held self.rows) c ups.old }
+        ensures { Ups (held self.entry.rows) (c + 1) ups.new }
+    {
+        let row = self.rows.row(c);
+        for b in row {
+            let other = Lit(*b).negated().0 as usize;
+            if row.len() < self.rows.len(other) {
+                ups[other] += 1;
+            }
         }
     }
-}
 
-fn up_rows(ups: &mut [u32; 131072], vars: usize, rows: &[u32], counts: &[u32])
-    requires rows_sized { RowsSized vars rows.now counts.now × Ups (rows_in vars rows.now counts.now) 0 ups.old }
-    requires counts_value { rows_in_range (rows_in vars rows.now counts.now) ≡ true }
-    ensures { Ups (rows_in vars rows.now counts.now) (2 * vars) ups.new }
-{
-    let mut c = 0;
-    while c < 2 * vars {
-        up_row(ups, vars, rows, counts, c);
-        c += 1;
-    }
-}
-
-// How often each code stands in the row of c; and no more.
-fn count_row(times: &mut [u32; 131072], vars: usize, rows: &[u32], counts: &[u32], c: usize)
-    requires rows_sized { RowsSized vars rows.now counts.now × (c < 2 * vars) × NoTimes (rows_in vars rows.now counts.now) times.old }
-    requires counts_value { rows_in_range (rows_in vars rows.now counts.now) ≡ true }
-    ensures { Times (rows_in vars rows.now counts.now) c (row_length (rows_in vars rows.now counts.now) c) times.new }
-{
-    let len = row_length(vars, rows, counts, c);
-    let mut k = 0;
-    while k < len {
-        let b = row_entry(vars, rows, counts, c, k);
-        k += 1;
-        times[b] += 1;
-    }
-}
-
-fn uncount_row(times: &mut [u32; 131072], vars: usize, rows: &[u32], counts: &[u32], c: usize)
-    requires rows_sized { RowsSized vars rows.now counts.now × (c < 2 * vars) × Times (rows_in vars rows.now counts.now) c (row_length (rows_in vars rows.now counts.now) c) times.old }
-    requires counts_value { rows_in_range (rows_in vars rows.now counts.now) ≡ true }
-    ensures { NoTimes (rows_in vars rows.now counts.now) times.new }
-{
-    let len = row_length(vars, rows, counts, c);
-    let mut k = 0;
-    while k < len {
-        let b = row_entry(vars, rows, counts, c, k);
-        k += 1;
-        times[b] -= 1;
-    }
-}
-
-fn entry_sparse(
-    times: &[u32; 131072],
-    vars: usize,
-    rows: &[u32],
-    counts: &[u32],
-    c: usize,
-    k: usize,
-) -> bool
-    requires rows_sized { RowsSized vars rows.now counts.now × (c < 2 * vars) × (k < row_length (rows_in vars rows.now counts.now) c) × Times (rows_in vars rows.now counts.now) c (row_length (rows_in vars rows.now counts.now) c) times.now }
-    requires counts_value { rows_in_range (rows_in vars rows.now counts.now) ≡ true }
-    ensures { result ≡ sparse_at (rows_in vars rows.now counts.now) c k }
-{
-    let b = row_entry(vars, rows, counts, c, k);
-    let partner = b + 1 - 2 * (b % 2);
-    let len = row_length(vars, rows, counts, c);
-    let other = row_length(vars, rows, counts, partner);
-    if len < other {
-        return true;
-    }
-    let there = times_in(vars, rows, counts, partner, c + 1 - 2 * (c % 2));
-    times[b] as usize == there
-}
-
-fn entries_sparse(
-    times: &[u32; 131072],
-    vars: usize,
-    rows: &[u32],
-    counts: &[u32],
-    c: usize,
-) -> bool
-    requires rows_sized { RowsSized vars rows.now counts.now × (c < 2 * vars) × Times (rows_in vars rows.now counts.now) c (row_length (rows_in vars rows.now counts.now) c) times.now }
-    requires counts_value { rows_in_range (rows_in vars rows.now counts.now) ≡ true }
-    ensures { result ≡ all_below (sparse_at (rows_in vars rows.now counts.now) c) (row_length (rows_in vars rows.now counts.now) c) }
-{
-    let len = row_length(vars, rows, counts, c);
-    let mut k = 0;
-    while k < len {
-        if !entry_sparse(times, vars, rows, counts, c, k) {
-            return false;
+    // Each entry that points to no longer row stands in its row as often as its partner there. `times` are those of the row of c.
+    fn entries_sparse(self, c: usize, times: &[u32; 131072]) -> bool
+        requires { (c < 2 * self.rows.vars) × Times (list_at (held self.rows).rows c) (row_length (held self.rows) c) times.now }
+        ensures { result ≡ all_below (sparse_at (held self.entry.rows) c) (row_length (held self.entry.rows) c) }
+    {
+        let row = self.rows.row(c);
+        let not_c = Lit(c as u32).negated().0;
+        for b in row {
+            let other = Lit(*b).negated().0 as usize;
+            if row.len() < self.rows.len(other) {
+                continue;
+            }
+            if times[*b as usize] != occurs(self.rows.row(other), not_c) {
+                return false;
+            }
         }
-        k += 1;
+        true
     }
-    true
-}
 
-// The entries of the row of c that point to a shorter row.
-fn down_row(vars: usize, rows: &[u32], counts: &[u32], c: usize) -> usize
-    requires rows_sized { RowsSized vars rows.now counts.now × (c < 2 * vars) }
-    requires counts_value { rows_in_range (rows_in vars rows.now counts.now) ≡ true }
-    ensures { result ≡ down (rows_in vars rows.now counts.now) c }
-{
-    let len = row_length(vars, rows, counts, c);
-    let mut n = 0;
-    let mut k = 0;
-    while k < len {
-        let b = row_entry(vars, rows, counts, c, k);
-        let other = row_length(vars, rows, counts, b + 1 - 2 * (b % 2));
-        k += 1;
-        if other < len {
-            n += 1;
+    // The entries of the row of c that point to a shorter row.
+    fn down_row(self, c: usize) -> u32
+        requires { c < 2 * self.rows.vars }
+        ensures { result ≡ down (held self.entry.rows) c }
+    {
+        let row = self.rows.row(c);
+        let mut n = 0;
+        for b in row {
+            let other = Lit(*b).negated().0 as usize;
+            if self.rows.len(other) < row.len() {
+                n += 1;
+            }
         }
+        n
     }
-    n
-}
 
-fn row_sparse(
-    times: &[u32; 131072],
-    ups: &[u32; 131072],
-    vars: usize,
-    rows: &[u32],
-    counts: &[u32],
-    c: usize,
-) -> bool
-    requires rows_sized { RowsSized vars rows.now counts.now × (c < 2 * vars) × Times (rows_in vars rows.now counts.now) c (row_length (rows_in vars rows.now counts.now) c) times.now }
-    requires counts_value { (rows_in_range (rows_in vars rows.now counts.now) ≡ true) × Ups (rows_in vars rows.now counts.now) (2 * vars) ups.now }
-    ensures { result ≡ sparse_row (rows_in vars rows.now counts.now) c }
-{
-    if !entries_sparse(times, vars, rows, counts, c) {
-        return false;
-    }
-    let down = down_row(vars, rows, counts, c);
-    down == ups[c] as usize
-}
-
-// The cost is, for each entry, the length of the shorter of its own row and its partner's.
-fn rows_symmetric(vars: usize, rows: &[u32], counts: &[u32]) -> bool
-    requires rows_sized { RowsSized vars rows.now counts.now }
-    requires counts_value { rows_in_range (rows_in vars rows.now counts.now) ≡ true }
-    ensures { result ≡ rows_symmetric (rows_in vars rows.now counts.now) }
-{
-    let mut ups = [0u32; 131072];
-    up_rows(&mut ups, vars, rows, counts);
-    let mut times = [0u32; 131072];
-    let mut c = 0;
-    while c < 2 * vars {
-        count_row(&mut times, vars, rows, counts, c);
-        if !row_sparse(&times, &ups, vars, rows, counts, c) {
-            return false;
+    // The cost is, for each entry, the length of the shorter of its own row and its partner's.
+    fn symmetric(self) -> bool
+        ensures { result ≡ rows_symmetric (held self.entry.rows) }
+    {
+        let codes = 2 * self.rows.vars;
+        let mut ups = [0u32; 131072];
+        for c in 0..codes {
+            self.up_row(c, &mut ups);
         }
-        uncount_row(&mut times, vars, rows, counts, c);
-        c += 1;
+        let mut times = [0u32; 131072];
+        for c in 0..codes {
+            let row = self.rows.row(c);
+            count(&mut times, row);
+            if !self.entries_sparse(c, &times) || self.down_row(c) != ups[c] {
+                return false;
+            }
+            uncount(&mut times, row);
+        }
+        true
     }
-    true
-}
-
-// ---- "The binary count is half the entries."
-
-fn entries(vars: usize, rows: &[u32], counts: &[u32]) -> usize
-    requires { RowsSized vars rows.now counts.now }
-    ensures { (result ≡ sum_below (row_length (rows_in vars rows.now counts.now)) (2 * vars)) × (result ≤ 2 ^ 24) }
-{
-    let mut total = 0;
-    let mut c = 0;
-    while c < 2 * vars {
-        total += row_length(vars, rows, counts, c);
-        c += 1;
-    }
-    total
 }
 
 // Refusal 1 was judged before: the sizes are those of `RowsSized`. The binary count is any number.
@@ -287,15 +206,13 @@ pub fn rows_pass(vars: usize, binary: usize, rows: &[u32], counts: &[u32]) -> bo
     requires { RowsSized vars rows.now counts.now }
     ensures { result ≡ rows_pass (with_binary binary (rows_in vars rows.now counts.now)) }
 {
-    if !rows_in_range(vars, rows, counts) {
+    let rows = Rows { vars, rows, counts };
+    if !rows.in_range() {
         return false;
     }
-    if !rows_symmetric(vars, rows, counts) {
+    if !(RangedRows { rows }).symmetric() {
         return false;
     }
-    let total = entries(vars, rows, counts);
-    if total < binary {
-        return false;
-    }
-    binary * 2 == total
+    let total = rows.entries();
+    binary <= total && binary * 2 == total
 }

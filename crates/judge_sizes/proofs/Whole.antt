@@ -8,10 +8,10 @@ use lib.Dec.{eqb, leb}
 use Rattle.laws.proofs.Folds.{all_same}
 use Rattle.kinds.specs.declared.State.{State}
 use Rattle.kinds.specs.Floats.{bump_ok, inverse_ok}
-use Rattle.kinds.specs.Lent.{Lent, Host, lent, lent_five, lent_words, lent_rows, lent_record, host_of, no_host, levels_only}
+use Rattle.kinds.specs.Lent.{Lent, Host, lent, lent_five, lent_words, lent_rows, lent_record, no_host, levels_only}
 use Rattle.kinds.specs.Setters.{with_used, with_listed, with_tier_lengths, with_recorded}
 use Rattle.kinds.specs.Layout.{view}
-use Rattle.calls.specs.Size.{words_sized, tier_sized, tiers_sized, row_sized, rows_sized, record_sized, levels_sized, host_sized, tier_at_most, start_sizes_ok}
+use Rattle.calls.specs.Size.{words_sized, tier_sized, tiers_sized, row_sized, rows_sized, record_sized, levels_sized}
 use Rattle.calls.specs.StorePasses.{floats_pass}
 use Rattle.judge_sizes.specs.Blank.{of_vars}
 
@@ -38,19 +38,11 @@ module _ (s : State) (words clauses irred core mid local rows counts rec : List 
   unfolding record_sized
   record_judged p = p
 
-  pub start_judged : (v : ℕ) {r : Bool} → r ≡ start_sizes_ok v (lent (of_vars 0) words clauses irred core mid local rows counts rec no_host) → r ≡ start_sizes_ok v whole
-  unfolding start_sizes_ok tier_at_most
-  start_judged v p = p
-
 -- the host's side
 module _ (v : ℕ) (s : Host) where
   pub levels_judged : {r : Bool} → r ≡ levels_sized v (levels_only s.levels) → r ≡ levels_sized v s
   unfolding levels_sized
   levels_judged p = p
-
-  pub host_judged : {r : Bool} → r ≡ host_sized v (host_of s.values s.kinds s.reasons [] s.trail s.assigned 0) → r ≡ host_sized v s
-  unfolding host_sized
-  host_judged p = p
 
 -- bump and inverse decay
 pub floats_judged : (k : Lent) {r : Bool} → r ≡ bump_ok k.state.activity.bump && inverse_ok k.state.activity.inv_decay → r ≡ floats_pass (view k)

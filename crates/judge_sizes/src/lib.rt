@@ -1,5 +1,6 @@
 // Judging the sizes, refusal 1: "V out of range, a buffer per variable or literal not V or 2V long, a trail buffer shorter than V, a store buffer above its maximum, a used length or row count above its room".
 // Every number is any number. And refusal 2 on the state's floats.
+// The store's buffers are slices beside the state, each a parameter: "a state by value, slices beside it" (docs/01-scope.md, What must change shape).
 #![tactic(auto)]
 
 ghost use Rattle.std.specs.Prelude.{◌≡◌, ◌&&◌, [], ℕ, ◌*◌, ◌/◌, ◌^◌, ◌≤◌, ◌<◌, length};
@@ -7,45 +8,49 @@ ghost use Rattle.std.specs.Float.{binary32};
 ghost use Rattle.std.specs.Float.Ieee.{to_bits};
 ghost use Rattle.laws.specs.Fold.{all_below};
 ghost use Rattle.kinds.specs.Floats.{bump_ok, inverse_ok};
-ghost use Rattle.kinds.specs.Lent.{lent, lent_five, lent_words, lent_rows, lent_record, host_of, no_host, levels_only, room_of};
+ghost use Rattle.kinds.specs.Lent.{lent, lent_five, lent_words, lent_rows, lent_record, lent_by, no_host, levels_only, room_of};
 ghost use Rattle.kinds.specs.Setters.{with_used, with_listed, with_tier_lengths, with_recorded};
-ghost use Rattle.calls.specs.Size.{vars_in_range, sized, words_sized, tiers_sized, row_sized, rows_sized, record_sized, levels_sized, host_sized, tier_at_most, start_sizes_ok};
+ghost use Rattle.calls.specs.HostPasses.{at_most_at};
+ghost use Rattle.calls.specs.Size.{vars_in_range, sized, words_sized, tiers_sized, rows_sized, record_sized, levels_sized, host_sized, at_most, start_sizes_ok};
 ghost use Rattle.judge_sizes.specs.Blank.{of_vars};
 
-use buffers::word;
-use kinds::ClauseActivity;
+use activity::pattern;
+use kinds::{ClauseActivity, HostSide};
 
 // "Variables V: 1 to 65,536."
+pub const MOST_VARS: usize = 65_536;
+
+// "words (at most 2^24)"; a row buffer and the record have as many.
+pub const MOST_WORDS: usize = 1 << 24;
+
+// "clause list .. (2^22 ..)", "four tier lists of references (2^22 each)"
+pub const MOST_LISTED: usize = 1 << 22;
+
+#[tactic(auto, unfolding(calls::specs::Size::vars_in_range))]
 pub fn vars_in_range(vars: usize) -> bool
     ensures { result ≡ vars_in_range vars }
 {
-    if vars < 1 {
-        return false;
-    }
-    vars <= 65536
+    1 <= vars && vars <= MOST_VARS
 }
 
 // A list of at most `most` numbers, `used` of them used.
+#[tactic(auto, unfolding(calls::specs::Size::sized))]
 fn is_sized(most: usize, used: usize, list: &[u32]) -> bool
     ensures { result ≡ sized most used list.now }
 {
-    if most < list.len() {
-        return false;
-    }
-    used <= list.len()
+    list.len() <= most && used <= list.len()
 }
 
 // "words (at most 2^24), clause list .. (2^22 ..)"
+#[tactic(auto, unfolding(calls::specs::Size::words_sized))]
 pub fn words_sized(used: usize, words: &[u32], listed: usize, clauses: &[u32]) -> bool
     ensures { result ≡ words_sized (lent_words (with_used used (with_listed listed (of_vars 0))) words.now clauses.now [] no_host) }
 {
-    if !is_sized(16777216, used, words) {
-        return false;
-    }
-    is_sized(4194304, listed, clauses)
+    is_sized(MOST_WORDS, used, words) && is_sized(MOST_LISTED, listed, clauses)
 }
 
 // "four tier lists of references (2^22 each)"
+#[tactic(auto, using(crate::proofs::Tiers::four_sized))]
 pub fn tiers_sized(
     tiers: [usize; 4],
     irred: &[u32],
@@ -55,61 +60,40 @@ pub fn tiers_sized(
 ) -> bool
     ensures { result ≡ tiers_sized (lent_five (with_tier_lengths tiers (of_vars 0)) [] [] irred.now core.now mid.now local.now no_host) }
 {
-    if !is_sized(4194304, tiers[0], irred) {
-        return false;
-    }
-    if !is_sized(4194304, tiers[1], core) {
-        return false;
-    }
-    if !is_sized(4194304, tiers[2], mid) {
-        return false;
-    }
-    is_sized(4194304, tiers[3], local)
+    is_sized(MOST_LISTED, tiers[0], irred)
+        && is_sized(MOST_LISTED, tiers[1], core)
+        && is_sized(MOST_LISTED, tiers[2], mid)
+        && is_sized(MOST_LISTED, tiers[3], local)
 }
 
 // No row count is above its room.
-fn counts_fit(vars: usize, rows: &[u32], counts: &[u32]) -> bool
-    requires { (0 < vars) × (length counts.now ≡ 2 * vars) }
-    ensures { result ≡ all_below (row_sized (lent_rows (of_vars vars) rows.now counts.now)) (2 * vars) }
+fn counts_fit(room: usize, counts: &[u32]) -> bool
+    ensures { result ≡ all_below (at_most_at room counts.now) (length counts.now) }
 {
-    let room = rows.len() / (2 * vars);
-    let mut c = 0;
-    while c < 2 * vars {
-        if room < word(counts, c) {
-            return false;
-        }
-        c += 1;
-    }
-    true
+    counts.iter().all(|count| *count as usize <= room)
 }
 
 // "a row of literals per code in one buffer (2^24), each row's room being its length over 2V, rounded down; a count per row"
+#[tactic(auto, using(crate::proofs::Rows::none_sized, crate::proofs::Rows::counts_sized), unfolding(calls::specs::Size::rows_sized))]
 pub fn rows_sized(vars: usize, rows: &[u32], counts: &[u32]) -> bool
     ensures { result ≡ rows_sized (lent_rows (of_vars vars) rows.now counts.now) }
 {
-    if 16777216 < rows.len() {
+    if MOST_WORDS < rows.len() || counts.len() % 2 != 0 || counts.len() / 2 != vars {
         return false;
     }
-    if counts.len() % 2 != 0 {
-        return false;
-    }
-    if counts.len() / 2 != vars {
-        return false;
-    }
-    if vars == 0 {
-        return true;
-    }
-    counts_fit(vars, rows, counts)
+    vars == 0 || counts_fit(rows.len() / (2 * vars), counts)
 }
 
 // "the record (2^24)"
+#[tactic(auto, unfolding(calls::specs::Size::record_sized))]
 pub fn record_sized(recorded: usize, lines: &[u32]) -> bool
     ensures { result ≡ record_sized (lent_record (with_recorded recorded (of_vars 0)) lines.now) }
 {
-    is_sized(16777216, recorded, lines)
+    is_sized(MOST_WORDS, recorded, lines)
 }
 
 // "per variable .. a level"
+#[tactic(auto, unfolding(calls::specs::Size::levels_sized))]
 pub fn levels_sized(vars: usize, levels: &[u32]) -> bool
     ensures { result ≡ levels_sized vars (levels_only levels.now) }
 {
@@ -117,47 +101,29 @@ pub fn levels_sized(vars: usize, levels: &[u32]) -> bool
 }
 
 // "per variable an assignment byte .., a reason ..; the trail"
-pub fn host_sized(
-    vars: usize,
-    values: &[u8],
-    kinds: &[u8],
-    reasons: &[u32],
-    trail: &[u32],
-    assigned: usize,
-) -> bool
-    ensures { result ≡ host_sized vars (host_of values.now kinds.now reasons.now [] trail.now assigned 0) }
+#[tactic(auto, unfolding(calls::specs::Size::host_sized))]
+pub fn host_sized(vars: usize, host: HostSide<'_>) -> bool
+    ensures { result ≡ host_sized vars (lent_by host.entry) }
 {
-    if values.len() != vars {
-        return false;
-    }
-    if kinds.len() != vars {
-        return false;
-    }
-    if reasons.len() != vars {
-        return false;
-    }
-    if trail.len() < vars {
-        return false;
-    }
-    assigned <= trail.len()
+    host.values.len() == vars
+        && host.kinds.len() == vars
+        && host.reasons.len() == vars
+        && vars <= host.trail.len()
+        && host.assigned <= host.trail.len()
 }
 
+#[tactic(auto, unfolding(calls::specs::Size::at_most))]
 fn tiers_at_most(irred: &[u32], core: &[u32], mid: &[u32], local: &[u32]) -> bool
-    ensures { result ≡ all_below (tier_at_most (lent_five (of_vars 0) [] [] irred.now core.now mid.now local.now no_host)) 4 }
+    ensures { result ≡ at_most (2 ^ 22) irred.now && (at_most (2 ^ 22) core.now && (at_most (2 ^ 22) mid.now && at_most (2 ^ 22) local.now)) }
 {
-    if 4194304 < irred.len() {
-        return false;
-    }
-    if 4194304 < core.len() {
-        return false;
-    }
-    if 4194304 < mid.len() {
-        return false;
-    }
-    local.len() <= 4194304
+    irred.len() <= MOST_LISTED
+        && core.len() <= MOST_LISTED
+        && mid.len() <= MOST_LISTED
+        && local.len() <= MOST_LISTED
 }
 
 // "Starting judges for 1 and 12 only": the buffers' lengths.
+#[tactic(auto, using(crate::proofs::Tiers::four_at_most), unfolding(calls::specs::Size::start_sizes_ok, calls::specs::Size::vars_in_range, calls::specs::Size::at_most))]
 pub fn start_sizes_ok(
     vars: usize,
     words: &[u32],
@@ -172,49 +138,22 @@ pub fn start_sizes_ok(
 ) -> bool
     ensures { result ≡ start_sizes_ok vars (lent (of_vars 0) words.now clauses.now irred.now core.now mid.now local.now rows.now counts.now lines.now no_host) }
 {
-    if !vars_in_range(vars) {
-        return false;
-    }
-    if counts.len() != 2 * vars {
-        return false;
-    }
-    if 16777216 < words.len() {
-        return false;
-    }
-    if 4194304 < clauses.len() {
-        return false;
-    }
-    if !tiers_at_most(irred, core, mid, local) {
-        return false;
-    }
-    if 16777216 < rows.len() {
-        return false;
-    }
-    lines.len() <= 16777216
+    vars_in_range(vars)
+        && counts.len() == 2 * vars
+        && words.len() <= MOST_WORDS
+        && clauses.len() <= MOST_LISTED
+        && tiers_at_most(irred, core, mid, local)
+        && rows.len() <= MOST_WORDS
+        && lines.len() <= MOST_WORDS
 }
 
 // ---- "Bump is +0 or more (not -0) and below the limit; inverse decay lies strictly between 1 and 16."
 
-// A float's pattern; a NaN has one of them.
-fn pattern(x: f32) -> u32
-    ensures { result ≡ to_bits binary32 x }
-{
-    if x != x {
-        return 0x7fc0_0000;
-    }
-    f32::to_bits(x)
-}
-
+#[tactic(auto, unfolding(kinds::specs::Floats::bump_ok, kinds::specs::Floats::inverse_ok))]
 pub fn floats_pass(activity: ClauseActivity) -> bool
     ensures { result ≡ bump_ok activity.bump && inverse_ok activity.inv_decay }
 {
     let bump = pattern(activity.bump);
-    if 0x7d7f_ffff <= bump {
-        return false;
-    }
     let inverse = pattern(activity.inv_decay);
-    if inverse <= 0x3f80_0000 {
-        return false;
-    }
-    inverse < 0x4180_0000
+    bump < 0x7d7f_ffff && 0x3f80_0000 < inverse && inverse < 0x4180_0000
 }

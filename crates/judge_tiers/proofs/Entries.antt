@@ -1,18 +1,18 @@
 -- The entries of a tier list. Assumes nothing.
 use mathlib.Core.Path.{◌≡◌, sym, ap, ◌∙◌, subst}
 use mathlib.Core.Logic.{◌⊎◌, inl, inr}
-use mathlib.Core.Bool.{Bool, true, false, not, ◌&&◌, ◌||◌}
+use mathlib.Core.Bool.{Bool, true, false, not, ◌&&◌}
 use mathlib.Core.List.{List}
 use Prim.Native.Nat.{ℕ, ◌+◌, ◌-◌, ◌≤◌, ◌<◌}
 use native.Mathlib.Omega.{arith}
 use lib.Dec.{leb, ltb}
 use lib.ListN.{length, take}
-use borrow.Author.Tests.{le-leb, lt-leb, le-ltb, not-true, not-false}
+use borrow.Author.Tests.{le-leb, lt-leb, le-ltb}
 use Rattle.laws.specs.Fold.{any_below}
 use Rattle.laws.specs.Lists.{at}
 use Rattle.laws.proofs.Folds.{any_no, any_only, and_fails_left, and_fails_right}
 use Rattle.kinds.specs.Clauses.{end_at, deleted_at, is_live}
-use Rattle.calls.specs.StorePasses.{placed, live_at, ref_at, inside_at, stale_ok, entry_ok}
+use Rattle.calls.specs.StorePasses.{placed, live_at, ref_at, inside_at}
 use Rattle.calls.proofs.Readings.{rising_read, ends_read}
 use Rattle.judge_words.specs.Judging.{Split}
 use Rattle.judge_words.proofs.Bisect.{lt_or_ge, ref_is_live}
@@ -55,32 +55,6 @@ module _ (w : List ℕ) (used : ℕ) (l : List ℕ) (n : ℕ) (p : placed w used
         ∙ ap (λ (b : Bool). b && ltb x (end_at w (at l (k - 1)))) (le-leb (at l (k - 1)) x (S.below (k - 1) (omega arith)))
         ∙ ap (λ (z : ℕ). ltb x (end_at w z)) (sym eo) ∙ ap (λ (z : ℕ). ltb x (o + (z + 3))) (sym ey))
 
--- e is entry q
-module _ (w : List ℕ) (used : ℕ) (l : List ℕ) (n : ℕ) (tl : List ℕ) (q : ℕ) (room : n ≤ length l) {e : ℕ} (ee : e ≡ at tl q) {r : Bool} (er : r ≡ is_live w (take n l) e) where
-  entry_is : entry_ok w used l n tl q ≡ r || stale_ok w used l n e
-  unfolding entry_ok
-  entry_is = ap (λ (z : ℕ). any_below (ref_at w l z) n || stale_ok w used l n z) (sym ee) ∙ ap (λ (b : Bool). b || stale_ok w used l n e) (ref_is_live w l n e room ∙ sym er)
-
-  pub entry_live : r ≡ true → true ≡ entry_ok w used l n tl q
-  entry_live h = sym (entry_is ∙ ap (λ (b : Bool). b || stale_ok w used l n e) h)
-
-  module _ (h : r ≡ false) where
-    stale_is : entry_ok w used l n tl q ≡ stale_ok w used l n e
-    stale_is = entry_is ∙ ap (λ (b : Bool). b || stale_ok w used l n e) h
-
-    pub entry_over : used < e + 3 → false ≡ entry_ok w used l n tl q
-    unfolding stale_ok
-    entry_over k = sym (stale_is ∙ and_fails_left _ _ (lt-leb (e + 3) used k))
-
-    module _ (k : e + 3 ≤ used) {d : Bool} (ed : d ≡ deleted_at w e) where
-      pub entry_undeleted : not d ≡ true → false ≡ entry_ok w used l n tl q
-      unfolding stale_ok
-      entry_undeleted t = sym (stale_is ∙ and_fails_right (leb (e + 3) used) _ (and_fails_left _ _ (sym ed ∙ not-true _ t)))
-
-      pub entry_test : not d ≡ false → {s : Bool} → s ≡ any_below (inside_at w l (e + 1)) n → not s ≡ entry_ok w used l n tl q
-      unfolding stale_ok
-      entry_test t es =
-          sym
-          (stale_is
-          ∙ ap (λ (b : Bool). b && (deleted_at w e && not (any_below (inside_at w l (e + 1)) n))) (le-leb (e + 3) used k)
-          ∙ ap (λ (b : Bool). b && not (any_below (inside_at w l (e + 1)) n)) (sym ed ∙ not-false _ t) ∙ ap not (sym es))
+-- a live clause's reference, as `is_live` answers on a whole list
+pub live_ref : (w l : List ℕ) (e : ℕ) → is_live w (take (length l) l) e ≡ any_below (ref_at w l e) (length l)
+live_ref w l e = sym (ref_is_live w l (length l) e (omega arith))

@@ -17,7 +17,7 @@ use Rattle.kinds.specs.Header.{tier_of, deleted_of, mark_of, with_mark}
 use Rattle.kinds.specs.Clauses.{head_at, change_head}
 use Rattle.calls.specs.StorePasses.{clauses_ok, clause_ok_at, live_at, live_in, ref_at, stands_at, covered_at, covered}
 use Rattle.calls.proofs.Readings.{unless, clause_read}
-use Rattle.judge_tiers.specs.Marking.{Inside, mark_at, mark_entry, marks, marked_at, clear_at, clears}
+use Rattle.judge_tiers.specs.Marking.{Inside, Bare, mark_at, mark_entry, marks, marked_at, clear_at, clears}
 use Rattle.judge_tiers.proofs.MarkBit.{mark_if, if_deleted, if_tier, if_mark, if_set, if_cleared}
 
 -- v is w with marks on some words
@@ -50,10 +50,6 @@ put_marked {w} {v} {P} {Q} M p x b e q = record { same = length-set v p x ∙ M.
     go : (k : ℕ) (c : Bool) → eqb p k ≡ c → at (set v p x) k ≡ mark_if (Q k) (at w k)
     go k true f = subst (λ (z : ℕ). at (set v p x) z ≡ mark_if (Q z) (at w z)) (eqb-true p k f) (get_or-set_same v p x 0 (omega (arith, M.same)) ∙ e)
     go k false f = get_or-set_other v p k x 0 (λ z. eqb-false p k f (sym z)) ∙ M.each k ∙ ap (λ (b : Bool). mark_if b (at w k)) (sym (q k f))
-
--- the live clauses among the first n are not marked
-unfoldable pub Bare : List ℕ → List ℕ → ℕ → Type 0
-Bare w l n = (i : ℕ) → i < n → live_at w l i ≡ true → mark_of (head_at w (at l i)) ≡ 0
 
 pub bare : (w : List ℕ) (v : ℕ) (l : List ℕ) (n : ℕ) → clauses_ok w v l n ≡ true → Bare w l n
 unfolding Bare clauses_ok clause_ok_at

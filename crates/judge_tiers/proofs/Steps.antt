@@ -1,29 +1,24 @@
 -- The steps of the marking, as the code takes them. Assumes nothing.
 use mathlib.Core.Path.{◌≡◌, sym, ap, ap₂, ◌∙◌}
-use mathlib.Core.Bool.{Bool, true, false, not, ◌&&◌, ◌||◌, cond}
+use mathlib.Core.Bool.{Bool, true, false, not, ◌&&◌, cond}
 use mathlib.Core.List.{List}
 use Prim.Native.Nat.{ℕ, ◌+◌, ◌≤◌, ◌<◌}
 use native.Mathlib.Omega.{arith}
 use lib.ListN.{set}
-use lib.Dec.{eqb}
 use borrow.Author.Tests.{eq-eqb, ne_eqb}
 use Rattle.laws.specs.Fold.{any_below}
 use Rattle.laws.specs.Lists.{at}
-use Rattle.laws.proofs.Folds.{any_no, any_only, and_fails_left, and_fails_right}
+use Rattle.laws.proofs.Folds.{any_no, any_only, and_fails_right}
 use Rattle.laws.proofs.Tests.{and_true}
-use Rattle.kinds.specs.Header.{mark_of, with_mark}
-use Rattle.kinds.specs.Clauses.{head_at, tier_at, deleted_at, change_head}
-use Rattle.calls.specs.StorePasses.{placed, live_at, live_in, ref_at}
+use Rattle.kinds.specs.Header.{with_mark}
+use Rattle.kinds.specs.Clauses.{deleted_at, change_head}
+use Rattle.calls.specs.StorePasses.{placed, live_at, ref_at}
 use Rattle.calls.proofs.Readings.{ends_read}
 use Rattle.judge_words.specs.Judging.{Found}
-use Rattle.judge_words.proofs.Clauses.{live_is}
-use Rattle.judge_tiers.specs.Marking.{Inside, mark_at, marked_at, clear_at}
+use Rattle.judge_tiers.specs.Marking.{Inside, mark_at}
 
 pub inside_of : (w : List ℕ) (used : ℕ) (l : List ℕ) (n : ℕ) → placed w used l n ≡ true → (len : ℕ) → used ≤ len → Inside l n len
 inside_of w used l n p len h = record { inside = λ i b. omega (arith, ends_read w used l n p i b) }
-
-pub found_within : {l : List ℕ} {n len e k : ℕ} → Inside l n len → Found l n e k → k < n → e + 1 < len
-found_within {k = k} I F h = omega (arith, I.inside k h, F.hit h)
 
 -- k is where e stands
 module _ (w l : List ℕ) (n e k : ℕ) (F : Found l n e k) where
@@ -46,32 +41,3 @@ module _ (w l : List ℕ) (n e k : ℕ) (F : Found l n e k) where
     pub mark_live : d ≡ false → {x : ℕ} → x ≡ with_mark true (at w (e + 1)) → set w (e + 1) x ≡ mark_at l n w e
     unfolding mark_at
     mark_live q ex = ap (set w (e + 1)) ex ∙ sym (ap (λ (c : Bool). cond c (change_head (with_mark true) e w) w) (ref_hit ∙ ap not q))
-
--- o is clause i's offset
-module _ (w l : List ℕ) (i o : ℕ) (eo : o ≡ at l i) {d : Bool} (ed : d ≡ deleted_at w o) where
-  pub marked_dead : (t : ℕ) → d ≡ true → true ≡ marked_at w l t i
-  unfolding marked_at live_in
-  marked_dead t q = sym (ap (λ (b : Bool). not b || eqb (mark_of (head_at w (at l i))) 1) (and_fails_left _ _ (live_is w l i o eo ed ∙ ap not q)))
-
-  module _ (t : ℕ) (q : d ≡ false) (x : ℕ) (ex : x ≡ tier_at w o) where
-    in_is : live_in w l t i ≡ eqb x t
-    unfolding live_in
-    in_is = ap₂ (λ (a b : Bool). a && b) (live_is w l i o eo ed ∙ ap not q) (ap (λ (z : ℕ). eqb z t) (ap (tier_at w) (sym eo) ∙ sym ex))
-
-    pub marked_other : (x ≡ t → ⊥) → true ≡ marked_at w l t i
-    unfolding marked_at
-    marked_other h = sym (ap (λ (b : Bool). not b || eqb (mark_of (head_at w (at l i))) 1) (in_is ∙ ne_eqb x t h))
-
-    pub marked_test : x ≡ t → {r : Bool} → r ≡ eqb (mark_of (at w (o + 1))) 1 → r ≡ marked_at w l t i
-    unfolding marked_at
-    marked_test h er = er ∙ ap (λ (z : ℕ). eqb (mark_of (head_at w z)) 1) eo ∙ sym (ap (λ (b : Bool). not b || eqb (mark_of (head_at w (at l i))) 1) (in_is ∙ eq-eqb x t h))
-
-  pub clear_dead : d ≡ true → w ≡ clear_at l w i
-  unfolding clear_at
-  clear_dead q = sym (ap (λ (b : Bool). cond b (change_head (with_mark false) (at l i) w) w) (live_is w l i o eo ed ∙ ap not q))
-
-  pub clear_live : d ≡ false → {x : ℕ} → x ≡ with_mark false (at w (o + 1)) → set w (o + 1) x ≡ clear_at l w i
-  unfolding clear_at
-  clear_live q ex =
-      ap (set w (o + 1)) ex ∙ ap (λ (z : ℕ). change_head (with_mark false) z w) eo
-      ∙ sym (ap (λ (b : Bool). cond b (change_head (with_mark false) (at l i) w) w) (live_is w l i o eo ed ∙ ap not q))

@@ -10,7 +10,7 @@ use borrow.Author.Tests.{leb-true}
 use Rattle.laws.specs.Fold.{all_below, any_below}
 use Rattle.laws.specs.Lists.{at, list_at, take_each}
 use Rattle.laws.proofs.Folds.{all_same, any_same, all_at, and_left, and_right}
-use Rattle.kinds.specs.Clauses.{end_at, deleted_at, is_live}
+use Rattle.kinds.specs.Clauses.{end_at, deleted_at}
 use Rattle.kinds.specs.Lent.{Lent, Host, lent}
 use Rattle.kinds.specs.declared.State.{State}
 use lib.Dec.{lit<}
@@ -50,6 +50,18 @@ module _ (w a l : List ℕ) (n : ℕ) (same : (i : ℕ) → i < n → at a i ≡
   unfolding entries_ok
   entries_same used = all_same (entry_ok w used a n b) (entry_ok w used l n tl) m (entry_same used)
 
+-- what one tier's test answers on used parts
+abbrev pub tier_answer : List ℕ → ℕ → List ℕ → ℕ → List ℕ → Bool
+tier_answer w used a t b = covered w a (length a) t b (length b) && entries_ok w used a (length a) b (length b)
+
+pub tier_used : (w : List ℕ) (used : ℕ) (l : List ℕ) (n : ℕ) → n ≤ length l → (t : ℕ) (tl : List ℕ) (m : ℕ) → m ≤ length tl
+    → tier_answer w used (take n l) t (take m tl) ≡ covered w l n t tl m && entries_ok w used l n tl m
+tier_used w used l n h t tl m g =
+    let same : (i : ℕ) → i < n → at (take n l) i ≡ at l i = λ i b. get_or-take n l i 0 b in
+    let alike : (q : ℕ) → q < m → at (take m tl) q ≡ at tl q = λ q b. get_or-take m tl q 0 b in
+    ap₂ (λ (x y : ℕ). covered w (take n l) x t (take m tl) y && entries_ok w used (take n l) x (take m tl) y) (length-take-le n l h) (length-take-le m tl g)
+    ∙ ap₂ (λ (x y : Bool). x && y) (covered_same w (take n l) l n same (take m tl) tl m alike t) (entries_same w (take n l) l n same (take m tl) tl m alike used)
+
 -- list t of what several buffers hold
 pub take_each_lem : (ns : List ℕ) (ls : List (List ℕ)) (t : ℕ) → list_at (take_each ns ls) t ≡ take (at ns t) (list_at ls t)
 unfolding take_each
@@ -67,32 +79,9 @@ tiers_sized_lem k e t h = leb-true (at k.state.tiers t) (length (list_at k.tiers
 pub tiers_whole : (k : Lent) → k.state.clauses ≤ length k.clauses → ((t : ℕ) → t < 4 → at k.state.tiers t ≤ length (list_at k.tiers t))
     → tiers_ok (view k) ≡ all_below (tier_test k.words k.state.words k.clauses k.state.clauses k.tiers k.state.tiers) 4
 unfolding tiers_ok tier_ok view tier_test
-tiers_whole k h s = all_same (tier_ok (view k)) (tier_test w used l n k.tiers k.state.tiers) 4 each
-  where
-    w : List ℕ
-    w = k.words
-
-    used : ℕ
-    used = k.state.words
-
-    l : List ℕ
-    l = k.clauses
-
-    n : ℕ
-    n = k.state.clauses
-
-    test : ℕ → ℕ → List ℕ → ℕ → Bool
-    test t n' b m = covered w (take n l) n' t b m && entries_ok w used (take n l) n' b m
-
-    each : (t : ℕ) → t < 4 → tier_ok (view k) t ≡ tier_test w used l n k.tiers k.state.tiers t
-    each t g =
-        let tl = list_at k.tiers t in
-        let m = at k.state.tiers t in
-        let same : (i : ℕ) → i < n → at (take n l) i ≡ at l i = λ i b. get_or-take n l i 0 b in
-        let alike : (q : ℕ) → q < m → at (take m tl) q ≡ at tl q = λ q b. get_or-take m tl q 0 b in
-        ap (λ (b : List ℕ). test t (length (take n l)) b (length b)) (take_each_lem k.state.tiers k.tiers t)
-        ∙ ap₂ (λ (x y : ℕ). test t x (take m tl) y) (length-take-le n l h) (length-take-le m tl (s t g))
-        ∙ ap₂ (λ (x y : Bool). x && y) (covered_same w (take n l) l n same (take m tl) tl m alike t) (entries_same w (take n l) l n same (take m tl) tl m alike used)
+tiers_whole k h s =
+    all_same (tier_ok (view k)) (tier_test k.words k.state.words k.clauses k.state.clauses k.tiers k.state.tiers) 4
+    (λ t g. ap (tier_answer k.words k.state.words (take k.state.clauses k.clauses) t) (take_each_lem k.state.tiers k.tiers t) ∙ tier_used k.words k.state.words k.clauses k.state.clauses h t (list_at k.tiers t) (at k.state.tiers t) (s t g))
 
 -- where the words and the clause list pass, `tiers_pass` may be asked
 pub ready_of : (k : Lent) → WordsSized k → words_pass (view k) ≡ true → Ready k.words k.state.vars k.state.words k.clauses k.state.clauses
@@ -107,11 +96,6 @@ ready_of k s e =
       lies = and_left (placed w k.state.words l n) _ p;
       good = and_left (clauses_ok w k.state.vars l n) _ (and_right (placed w k.state.words l n) _ p);
     }
-
--- the test of refusal 6 on lent buffers, as `is_live` answers it
-pub live_whole : (k : Lent) (e : ℕ) → is_live (view k).words (view k).clauses e ≡ is_live k.words (take k.state.clauses k.clauses) e
-unfolding view
-live_whole k e = refl
 
 -- the four lists' lengths, as the `requires` of `tiers_pass` asks them
 pub lists_sized : (s : State) (words clauses irred core mid local rows counts rec : List ℕ) (host : Host) → tiers_sized (lent s words clauses irred core mid local rows counts rec host) ≡ true

@@ -21,6 +21,16 @@ pub record Ready (w : List ℕ) (v used : ℕ) (l : List ℕ) (n : ℕ) : Type 0
 pub record Inside (l : List ℕ) (n len : ℕ) : Type 0 where
   pub inside : (i : ℕ) → i < n → at l i + 1 < len
 
+-- the live clauses among the first n are not marked
+unfoldable pub Bare : List ℕ → List ℕ → ℕ → Type 0
+Bare w l n = (i : ℕ) → i < n → live_at w l i ≡ true → mark_of (head_at w (at l i)) ≡ 0
+
+-- the same for a clause list that is its used part, as far as a tier's test needs it
+pub record Prepared (w : List ℕ) (used : ℕ) (l : List ℕ) : Type 0 where
+  pub room : used ≤ length w
+  pub lies : placed w used l (length l) ≡ true
+  pub bare : Bare w l (length l)
+
 -- ---- marking
 
 -- the words with the mark set on the clause at e, if that is a live clause's reference

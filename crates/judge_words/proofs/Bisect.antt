@@ -1,16 +1,19 @@
 -- The binary search over rising offsets. Assumes nothing.
 use mathlib.Core.Path.{◌≡◌, refl, sym, ap, ◌∙◌}
-use mathlib.Core.Logic.{⊎_elim, ◌⊎◌, inl, inr}
+use mathlib.Core.Logic.{◌⊎◌, inl, inr}
 use mathlib.Core.Bool.{Bool, true, false, not, ◌&&◌, ◌||◌, true≢false}
 use mathlib.Core.List.{List, [], ◌∷◌}
-use Prim.Native.Nat.{ℕ, zero, suc, ◌+◌, ◌-◌, ◌≤◌, ◌<◌}
+use Prim.Native.Nat.{ℕ, zero, suc, ◌+◌, ◌≤◌, ◌<◌}
 use native.Mathlib.Decide.{dec_lt}
 use native.Mathlib.Omega.{arith}
 use native.Mathlib.Nat.{eq-or-lt_of_le, not-suc-le-zero}
 use lib.Dec.{eqb}
 use lib.ListN.{length, take}
 use lib.Seq.{get_or-take, length-take-le}
-use borrow.Author.Tests.{eq-eqb, ne_eqb, eqb-true}
+use lib.Dec.{leb}
+use borrow.Author.Tests.{eq-eqb, ne_eqb, eqb-true, leb-true, leb-false}
+use Rattle.std.specs.List.Sorted.{IsPartitionedBy, IsPartitionPoint}
+use Rattle.std.proofs.lemmas.List.Sorted.{IsPartitionedBy-leb, IsNonDecreasingBy-from_default}
 use Rattle.laws.specs.Lists.{at, elem}
 use Rattle.laws.proofs.Folds.{or_left, or_right, or_neither, and_both, and_left, and_right, and_fails_left, any_at, any_find}
 use Rattle.laws.specs.Fold.{any_below}
@@ -29,50 +32,48 @@ lt_or_ge i k = go (dec_lt i k)
 pub rising : (w : List ℕ) (used : ℕ) (l : List ℕ) (n : ℕ) → placed w used l n ≡ true → Rising l n
 rising w used l n p = record { rises = λ i j a b. omega (arith, rising_read w used l n p i j a b) }
 
--- what is still between: those below `lo` are at most x, those from `hi` on above it
-pub record Bracket (l : List ℕ) (n x lo hi : ℕ) : Type 0 where
-  pub ordered : lo ≤ hi
-  pub within : hi ≤ n
-  pub below : (i : ℕ) → i < lo → at l i ≤ x
-  pub above : (i : ℕ) → hi ≤ i → i < n → x < at l i
+-- the offsets in use, and what the library's searches answer on them
+module _ {l : List ℕ} {n : ℕ} (R : Rising l n) (room : n ≤ length l) where
+  used_length : length (take n l) ≡ n
+  used_length = length-take-le n l room
 
-pub bracket_start : (l : List ℕ) (n x : ℕ) → Bracket l n x 0 n
-bracket_start l n x = record { ordered = omega arith; within = omega arith; below = λ i h. absurd (not-suc-le-zero h); above = λ i h k. omega arith }
+  used_at : (i : ℕ) → i < n → at (take n l) i ≡ at l i
+  used_at i h = get_or-take n l i 0 h
 
-module _ {l : List ℕ} {n x lo hi : ℕ} (R : Rising l n) (B : Bracket l n x lo hi) (mid y : ℕ) (e : y ≡ at l mid) (m : mid < hi) where
-  pub bracket_up : lo ≤ mid → y ≤ x → Bracket l n x (mid + 1) hi
-  bracket_up g h = record { ordered = omega arith; within = B.within; below = λ i k. go i (eq-or-lt_of_le {n = i} {m = mid} (omega arith)); above = B.above }
+  pub risen : (i j : ℕ) → i ≤ j → j < length (take n l) → at (take n l) i ≤ at (take n l) j
+  risen i j h g = go (eq-or-lt_of_le {n = i} {m = j} h)
     where
-      go : (i : ℕ) → (i ≡ mid) ⊎ (i < mid) → at l i ≤ x
-      go i s = ⊎_elim (λ q. omega (arith, ap (at l) q)) (λ q. omega (arith, R.rises i mid q (omega (arith, B.within)))) s
+      go : (i ≡ j) ⊎ (i < j) → at (take n l) i ≤ at (take n l) j
+      go (inl e) = omega (arith, ap (at (take n l)) e)
+      go (inr q) = omega (arith, R.rises i j q (omega (arith, used_length)), used_at i (omega (arith, used_length)), used_at j (omega (arith, used_length)))
 
-  pub bracket_down : lo ≤ mid → x < y → Bracket l n x lo mid
-  bracket_down g h = record { ordered = g; within = omega (arith, B.within); below = B.below; above = λ i k b. go i b (eq-or-lt_of_le {n = mid} {m = i} k) }
+  pub parts : (x : ℕ) → IsPartitionedBy (λ y. leb y x) (take n l)
+  parts x = IsPartitionedBy-leb (λ y. y) (take n l) x (IsNonDecreasingBy-from_default (λ y. y) (take n l) 0 risen)
+
+  pub split_at : (x k : ℕ) → k ≤ length (take n l) → IsPartitionPoint (λ y. leb y x ≡ true) (λ y. leb y x ≡ false) (take n l) k → Split l n x k
+  split_at x k h p = record {
+    within = omega (arith, used_length);
+    below = λ i b. omega (arith, leb-true (at (take n l) i) x (p.0 i 0 (omega arith) b), used_at i (omega (arith, used_length)));
+    above = λ i b g. omega (arith, leb-false (at (take n l) i) x (p.1 i 0 b (omega (arith, used_length))), used_at i g);
+  }
+
+  pub found_at : (e k : ℕ) → (k < length (take n l)) × (at (take n l) k ≡ e) → Found l n e k
+  found_at e k p = record { within = omega (arith, used_length); hit = λ h. sym (used_at k h) ∙ p.1; miss = λ i h d q. go i h q (dec_lt i k) (dec_lt k i) d }
     where
-      go : (i : ℕ) → i < n → (mid ≡ i) ⊎ (mid < i) → x < at l i
-      go i b s = ⊎_elim (λ q. omega (arith, ap (at l) q)) (λ q. omega (arith, R.rises mid i q b)) s
+      same : at l k ≡ e
+      same = sym (used_at k (omega (arith, used_length))) ∙ p.1
 
-pub bracket_end : {l : List ℕ} {n x lo hi : ℕ} → Bracket l n x lo hi → hi ≤ lo → Split l n x lo
-bracket_end B h = record { within = omega (arith, B.ordered, B.within); below = B.below; above = λ i k b. B.above i (omega arith) b }
+      go : (i : ℕ) → i < n → at l i ≡ e → Dec (i < k) → Dec (k < i) → (i ≡ k → ⊥) → ⊥
+      go i h q (yes a) b d = omega (arith, R.rises i k a (omega (arith, used_length)), same)
+      go i h q (no a) (yes b) d = omega (arith, R.rises k i b h, same)
+      go i h q (no a) (no b) d = d (omega arith)
 
-module _ {l : List ℕ} {n e k : ℕ} (R : Rising l n) (S : Split l n e k) where
-  pub found_none : k ≡ 0 → Found l n e n
-  found_none z = record { within = omega arith; hit = λ h. omega arith; miss = λ i h _ q. omega (arith, S.above i (omega arith) h) }
-
-  module _ (y : ℕ) (ey : y ≡ at l (k - 1)) (pos : k ≡ 0 → ⊥) where
-    pub found_at : y ≡ e → Found l n e (k - 1)
-    found_at q = record { within = omega (arith, S.within); hit = λ _. sym ey ∙ q; miss = λ i h d p. go i h d p (lt_or_ge i k) }
-      where
-        go : (i : ℕ) → i < n → (i ≡ k - 1 → ⊥) → at l i ≡ e → (i < k) ⊎ (k ≤ i) → ⊥
-        go i h d p s = ⊎_elim (λ a. omega (arith, R.rises i (k - 1) (omega arith) (omega (arith, S.within)))) (λ a. omega (arith, S.above i a h)) s
-
-    pub found_not : (y ≡ e → ⊥) → Found l n e n
-    found_not q = record { within = omega arith; hit = λ h. omega arith; miss = λ i h _ p. go i h p (lt_or_ge i (k - 1)) (lt_or_ge i k) }
-      where
-        go : (i : ℕ) → i < n → at l i ≡ e → (i < k - 1) ⊎ (k - 1 ≤ i) → (i < k) ⊎ (k ≤ i) → ⊥
-        go i h p (inl a) s = omega (arith, R.rises i (k - 1) a (omega (arith, S.within)), S.below (k - 1) (omega arith))
-        go i h p (inr b) (inl a) = let z : i ≡ k - 1 = omega arith in omega (arith, ap (at l) z)
-        go i h p (inr b) (inr a) = omega (arith, S.above i a h)
+  pub found_none : (e k : ℕ) → (k ≤ length (take n l)) × ((i : ℕ) → i < k → at (take n l) i < e) × ((i : ℕ) → k ≤ i → i < length (take n l) → e < at (take n l) i) → Found l n e n
+  found_none e k p = record { within = omega arith; hit = λ h. omega arith; miss = λ i h d q. go i h q (dec_lt i k) }
+    where
+      go : (i : ℕ) → i < n → at l i ≡ e → Dec (i < k) → ⊥
+      go i h q (yes a) = omega (arith, p.1 i a, used_at i h)
+      go i h q (no a) = omega (arith, p.2 i (omega arith) (omega (arith, used_length)), used_at i h)
 
 pub found_inside : (w : List ℕ) (used : ℕ) (l : List ℕ) (n e k : ℕ) → placed w used l n ≡ true → Found l n e k → k < n → e + 3 ≤ used
 found_inside w used l n e k p F h = omega (arith, ends_read w used l n p k h, F.hit h)

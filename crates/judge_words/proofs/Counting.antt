@@ -5,15 +5,20 @@ use mathlib.Core.List.{List}
 use Prim.Native.Nat.{ℕ, zero, suc, ◌+◌, ◌-◌, ◌*◌, ◌≤◌, ◌<◌}
 use native.Mathlib.Omega.{arith}
 use native.Mathlib.Numerals.{add-one}
-use native.Mathlib.Nat.{add-zero, le_antisymm}
-use lib.Dec.{eqb, leb, lit<}
+use native.Mathlib.Nat.{add-zero}
+use lib.Dec.{eqb, leb}
+use lib.Pointwise.{pointwise}
+use Rattle.std.proofs.lemmas.Slice.Eq.{slice_eq-Decides}
+use Rattle.std.proofs.lemmas.Bool.Decides.{Decides-eqb}
+use Rattle.std.proofs.lemmas.List.{ext_get_or}
+use Rattle.laws.proofs.Chains.{all_iff}
 use lib.ListN.{length, set, replicate, get_or-replicate}
 use lib.Seq.{get_or-set_same, get_or-set_other}
-use borrow.Author.Tests.{le-leb, lt-leb, eq-eqb, ne_eqb, eqb-true, eqb-false}
+use borrow.Author.Tests.{le-leb, lt-leb, eq-eqb, eqb-true, eqb-false}
 use native.Mathlib.Decide.{dec_le}
-use Rattle.laws.specs.Fold.{all_below, one, count_below, sum_below}
+use Rattle.laws.specs.Fold.{one, count_below, sum_below}
 use Rattle.laws.specs.Lists.{at}
-use Rattle.laws.proofs.Folds.{all_fails, count_none, count_more, and_fails_left}
+use Rattle.laws.proofs.Folds.{count_none, count_more, and_fails_left}
 use Rattle.laws.proofs.Sums.{sum_more}
 use Rattle.kinds.specs.Clauses.{end_at, size_at, len_at, deleted_at, tier_at}
 use Rattle.calls.specs.StorePasses.{placed, live_at, live_in, count_ok, counts_ok, live_size, garbage_ok}
@@ -34,53 +39,46 @@ set_tally c k t h = go (eqb k t) refl
 pub tally_none : (w l : List ℕ) → Tally w l 0 (replicate 4 0)
 tally_none w l = record { each = λ t h. get_or-replicate 4 t 0 0 h ∙ sym (count_none (live_in w l t)) }
 
-pub tally_end : {w l : List ℕ} {i n : ℕ} {c : List ℕ} → Tally w l i c → i ≤ n → n ≤ i → Tally w l n c
-tally_end {w} {l} {i} {n} {c} T h k = subst (λ (m : ℕ). Tally w l m c) (le_antisymm h k) T
-
 -- o is clause i's offset
 module _ (w l : List ℕ) (i o : ℕ) (eo : o ≡ at l i) {d : Bool} (ed : d ≡ deleted_at w o) where
-  pub tally_skip : (c : List ℕ) → Tally w l i c → not d ≡ false → Tally w l (i + 1) c
+  pub tally_skip : (c : List ℕ) → Tally w l i c → d ≡ true → Tally w l (i + 1) c
   unfolding live_in
   tally_skip c T e =
-      record { each = λ t lt. T.each t lt ∙ sym (count_more (live_in w l t) i ∙ ap (λ (b : Bool). count_below (live_in w l t) i + one b) (and_fails_left _ _ (live_is w l i o eo ed ∙ e)) ∙ add-zero _) }
+      record { each = λ t lt. T.each t lt ∙ sym (count_more (live_in w l t) i ∙ ap (λ (b : Bool). count_below (live_in w l t) i + one b) (and_fails_left _ _ (live_is w l i o eo ed ∙ ap not e)) ∙ add-zero _) }
 
-  in_is : (t x : ℕ) → x ≡ tier_at w o → not d ≡ true → live_in w l t i ≡ eqb x t
+  in_is : (t x : ℕ) → x ≡ tier_at w o → d ≡ false → live_in w l t i ≡ eqb x t
   unfolding live_in
-  in_is t x ex e = ap₂ (λ (a b : Bool). a && b) (live_is w l i o eo ed ∙ e) (ap (λ (z : ℕ). eqb z t) (ap (tier_at w) (sym eo) ∙ sym ex))
+  in_is t x ex e = ap₂ (λ (a b : Bool). a && b) (live_is w l i o eo ed ∙ ap not e) (ap (λ (z : ℕ). eqb z t) (ap (tier_at w) (sym eo) ∙ sym ex))
 
-  pub tally_add : (c : List ℕ) → length c ≡ 4 → Tally w l i c → not d ≡ true → (x : ℕ) → x ≡ tier_at w o → x < 4 → Tally w l (i + 1) (set c x (at c x + 1))
+  pub tally_add : (c : List ℕ) → length c ≡ 4 → Tally w l i c → d ≡ false → (x : ℕ) → x ≡ tier_at w o → x < 4 → Tally w l (i + 1) (set c x (at c x + 1))
   tally_add c len T e x ex b =
       record { each = λ t lt. set_tally c x t (omega arith) ∙ ap₂ (λ (a z : ℕ). a + z) (T.each t lt) (ap one (sym (in_is t x ex e))) ∙ sym (count_more (live_in w l t) i) }
 
 -- c is the tally that the counts are held against
-module _ (w l : List ℕ) (n : ℕ) (counts c : List ℕ) (T : Tally w l n c) where
-  pub count_bad : (t : ℕ) → t < 4 → (at counts t ≡ at c t → ⊥) → false ≡ counts_ok w l n counts
-  unfolding counts_ok count_ok
-  count_bad t h k = sym (all_fails (count_ok w l n counts) t 4 h (ne_eqb _ _ (λ q. k (q ∙ sym (T.each t h)))))
-
-  count_one : (t : ℕ) → t < 4 → at counts t ≡ at c t → count_ok w l n counts t ≡ true
-  unfolding count_ok
-  count_one t h e = eq-eqb _ _ (e ∙ T.each t h)
-
-  pub count_last : at counts 0 ≡ at c 0 → at counts 1 ≡ at c 1 → at counts 2 ≡ at c 2 → eqb (at counts 3) (at c 3) ≡ counts_ok w l n counts
-  unfolding counts_ok count_ok all_below
-  count_last e₀ e₁ e₂ = simp (T.each 3 (lit< tt), count_one 0 (lit< tt) e₀, count_one 1 (lit< tt) e₁, count_one 2 (lit< tt) e₂)
+pub counts_equal : (w l : List ℕ) (n : ℕ) (counts c : List ℕ) → Tally w l n c → length counts ≡ 4 → length c ≡ 4 → {r : Bool} → r ≡ pointwise eqb counts c → r ≡ counts_ok w l n counts
+unfolding counts_ok count_ok
+counts_equal w l n counts c T h k e =
+    let d = slice_eq-Decides Decides-eqb counts c _ e in
+    all_iff (count_ok w l n counts) 4 (
+      λ q t b. eq-eqb _ _ (ap (λ (x : List ℕ). at x t) (d.0 q) ∙ T.each t b),
+      λ q. d.1 (ext_get_or 0 counts c (h ∙ sym k) (λ t b. eqb-true _ _ (q t (omega arith)) ∙ sym (T.each t (omega arith)))),
+    )
 
 -- ---- the live words
 
 module _ (w l : List ℕ) (i o : ℕ) (eo : o ≡ at l i) {d : Bool} (ed : d ≡ deleted_at w o) {total : ℕ} (T : total ≡ sum_below (live_size w l) i) where
-  pub words_skip : not d ≡ false → total ≡ sum_below (live_size w l) (i + 1)
+  pub words_skip : d ≡ true → total ≡ sum_below (live_size w l) (i + 1)
   unfolding live_size
-  words_skip e = T ∙ sym (sum_more (live_size w l) i ∙ ap (λ (b : Bool). sum_below (live_size w l) i + one b * size_at w (at l i)) (live_is w l i o eo ed ∙ e) ∙ none (sum_below (live_size w l) i) (size_at w (at l i)))
+  words_skip e = T ∙ sym (sum_more (live_size w l) i ∙ ap (λ (b : Bool). sum_below (live_size w l) i + one b * size_at w (at l i)) (live_is w l i o eo ed ∙ ap not e) ∙ none (sum_below (live_size w l) i) (size_at w (at l i)))
     where
       none : (a b : ℕ) → a + 0 * b ≡ a
       none a b = omega arith
 
-  pub words_add : not d ≡ true → (x : ℕ) → x ≡ at w (o + 2) → total + (x + 3) ≡ sum_below (live_size w l) (i + 1)
+  pub words_add : d ≡ false → (x : ℕ) → x ≡ at w (o + 2) → total + (x + 3) ≡ sum_below (live_size w l) (i + 1)
   unfolding live_size
   words_add e x ex =
       ap₂ (λ (a b : ℕ). a + (b + 3)) T (ex ∙ ap (len_at w) eo)
-      ∙ sym (sum_more (live_size w l) i ∙ ap (λ (b : Bool). sum_below (live_size w l) i + one b * size_at w (at l i)) (live_is w l i o eo ed ∙ e) ∙ whole (sum_below (live_size w l) i) (size_at w (at l i)))
+      ∙ sym (sum_more (live_size w l) i ∙ ap (λ (b : Bool). sum_below (live_size w l) i + one b * size_at w (at l i)) (live_is w l i o eo ed ∙ ap not e) ∙ whole (sum_below (live_size w l) i) (size_at w (at l i)))
     where
       whole : (a b : ℕ) → a + 1 * b ≡ a + b
       whole a b = omega arith

@@ -2,5 +2,4 @@ pub mod Bisect
 pub mod Clauses
 pub mod Counting
 pub mod Literals
-pub mod Placing
 pub mod Whole

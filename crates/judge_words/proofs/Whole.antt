@@ -55,20 +55,33 @@ module _ (w a l : List ℕ) (n : ℕ) (same : (i : ℕ) → i < n → at a i ≡
 abbrev pub words_test_lem : List ℕ → ℕ → ℕ → List ℕ → ℕ → List ℕ → ℕ → Bool
 words_test_lem w v used l n counts g = placed w used l n && (clauses_ok w v l n && (counts_ok w l n counts && garbage_ok w used l n g))
 
-words_same : (w : List ℕ) (v used : ℕ) (a l : List ℕ) (n : ℕ) (counts : List ℕ) (g : ℕ) → ((i : ℕ) → i < n → at a i ≡ at l i) → words_test_lem w v used a n counts g ≡ words_test_lem w v used l n counts g
-words_same w v used a l n counts g s =
-    ap₂ (λ (x y : Bool). x && y) (placed_same w a l n s used)
-    (ap₂ (λ (x y : Bool). x && y) (clauses_same w a l n s v) (ap₂ (λ (x y : Bool). x && y) (counts_same w a l n s counts) (garbage_same w a l n s used g)))
+-- l as its used part
+module _ (w l : List ℕ) (n : ℕ) (h : n ≤ length l) where
+  used_same : (i : ℕ) → i < n → at (take n l) i ≡ at l i
+  used_same i b = get_or-take n l i 0 b
+
+  pub placed_used : (used : ℕ) → placed w used (take n l) (length (take n l)) ≡ placed w used l n
+  placed_used used = ap (placed w used (take n l)) (length-take-le n l h) ∙ placed_same w (take n l) l n used_same used
+
+  pub clauses_used : (v : ℕ) → clauses_ok w v (take n l) (length (take n l)) ≡ clauses_ok w v l n
+  clauses_used v = ap (clauses_ok w v (take n l)) (length-take-le n l h) ∙ clauses_same w (take n l) l n used_same v
+
+  pub counts_used : (counts : List ℕ) → counts_ok w (take n l) (length (take n l)) counts ≡ counts_ok w l n counts
+  counts_used counts = ap (λ (m : ℕ). counts_ok w (take n l) m counts) (length-take-le n l h) ∙ counts_same w (take n l) l n used_same counts
+
+  pub garbage_used : (used g : ℕ) → garbage_ok w used (take n l) (length (take n l)) g ≡ garbage_ok w used l n g
+  garbage_used used g = ap (λ (m : ℕ). garbage_ok w used (take n l) m g) (length-take-le n l h) ∙ garbage_same w (take n l) l n used_same used g
 
 -- what `words_pass` answers on lent buffers is whether the words and the clause list pass
 pub words_whole : (k : Lent) → k.state.clauses ≤ length k.clauses
     → words_pass (view k) ≡ words_test_lem k.words k.state.vars k.state.words k.clauses k.state.clauses k.state.counts k.state.garbage
 unfolding words_pass view
 words_whole k h =
+    let w = k.words in
+    let l = k.clauses in
     let n = k.state.clauses in
-    let a = take n k.clauses in
-    ap (λ (m : ℕ). words_test_lem k.words k.state.vars k.state.words a m k.state.counts k.state.garbage) (length-take-le n k.clauses h)
-    ∙ words_same k.words k.state.vars k.state.words a k.clauses n k.state.counts k.state.garbage (λ i b. get_or-take n k.clauses i 0 b)
+    ap₂ (λ (x y : Bool). x && y) (placed_used w l n h k.state.words)
+    (ap₂ (λ (x y : Bool). x && y) (clauses_used w l n h k.state.vars) (ap₂ (λ (x y : Bool). x && y) (counts_used w l n h k.state.counts) (garbage_used w l n h k.state.words k.state.garbage)))
 
 -- what refusal 1 has judged, as the `requires` of `words_pass` asks it
 pub record WordsSized (k : Lent) : Type 0 where

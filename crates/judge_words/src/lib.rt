@@ -5,7 +5,7 @@ ghost use Rattle.std.specs.Prelude.{◌≡◌, true, ◌&&◌, ℕ, ◌+◌, ◌
 ghost use Rattle.laws.specs.Fold.{sum_below};
 ghost use Rattle.laws.specs.Lists.{at};
 ghost use Rattle.kinds.specs.Clauses.{end_at, tier_at, deleted_at, is_live};
-ghost use Rattle.calls.specs.StorePasses.{placed_at, placed, lits_ok, head_ok, clause_ok, clause_ok_at, clauses_ok, counts_ok, live_size, garbage_ok};
+ghost use Rattle.calls.specs.StorePasses.{placed_at, placed, lits_ok, head_ok, clause_ok, clauses_ok, counts_ok, live_size, garbage_ok};
 ghost use Rattle.judge_words.specs.Judging.{Below, Tally, Rising, Split, Found};
 
 use buffers::word;
@@ -31,56 +31,36 @@ pub fn tier_at(words: &[u32], offset: usize) -> usize
 
 // ---- "Clause list offsets rise; each clause ends by the next one's start and by the used length."
 
-fn placed_at(words: &[u32], used: usize, clauses: &[u32], n: usize, i: usize) -> bool
-    requires { (used ≤ length words.now) × (n ≤ length clauses.now) × (i < n) }
-    ensures { result ≡ placed_at words.now used clauses.now n i }
+#[tactic(auto, unfolding(calls::specs::StorePasses::placed_at))]
+fn placed_at(words: &[u32], used: usize, clauses: &[u32], i: usize) -> bool
+    requires { (used ≤ length words.now) × (i < length clauses.now) }
+    ensures { result ≡ placed_at words.now used clauses.now (length clauses.now) i }
 {
     let offset = word(clauses, i);
     if used < offset + 3 {
         return false;
     }
     let end = offset + 3 + word(words, offset + 2);
-    if used < end {
-        return false;
-    }
-    if n <= i + 1 {
-        return true;
-    }
-    end <= word(clauses, i + 1)
+    end <= used && (i + 1 == clauses.len() || end <= word(clauses, i + 1))
 }
 
-// The sizes are refusal 1's, here and below.
-fn all_placed(words: &[u32], used: usize, clauses: &[u32], n: usize) -> bool
-    requires { (used ≤ length words.now) × (n ≤ length clauses.now) }
-    ensures { result ≡ placed words.now used clauses.now n }
+// The sizes are refusal 1's, here and below; the clause list is its used part.
+fn all_placed(words: &[u32], used: usize, clauses: &[u32]) -> bool
+    requires { used ≤ length words.now }
+    ensures { result ≡ placed words.now used clauses.now (length clauses.now) }
 {
-    let mut i = 0;
-    while i < n {
-        if !placed_at(words, used, clauses, n, i) {
-            return false;
-        }
-        i += 1;
-    }
-    true
+    (0..clauses.len()).all(|i| placed_at(words, used, clauses, i))
 }
 
 // ---- "A live clause has 3 to V literals in range with different variables, mark 0, spare bits 0, an activity from +0 to the rescale limit (not -0). An original has glue 0."
 
-// The `len` literals from `from` on, by stamps: a variable that has this stamp stood before.
-fn lits_ok(
-    vars: usize,
-    words: &[u32],
-    from: usize,
-    len: usize,
-    stamps: &mut [u32],
-    stamp: u32,
-) -> bool
-    requires { (vars ≤ 65536) × (from + len ≤ length words.now) × (length stamps.old ≡ 65536) × Below stamps.old stamp }
-    ensures { (result ≡ lits_ok words.now vars from len) × Below stamps.new (stamp + 1) }
+// By stamps: a variable that has this stamp stood before.
+fn lits_ok(vars: usize, lits: &[u32], stamps: &mut [u32; 65536], stamp: u32) -> bool
+    requires { (vars ≤ 65536) × Below stamps.old stamp }
+    ensures { (result ≡ lits_ok lits.now vars 0 (length lits.now)) × Below stamps.new (stamp + 1) }
 {
-    let mut j = 0;
-    while j < len {
-        let lit = word(words, from + j);
+    for lit in lits {
+        let lit = *lit as usize;
         if 2 * vars <= lit {
             return false;
         }
@@ -89,7 +69,6 @@ fn lits_ok(
             return false;
         }
         stamps[var] = stamp;
-        j += 1;
     }
     true
 }
@@ -99,31 +78,23 @@ pub fn lits_pass(vars: usize, lits: &[u32]) -> bool
     requires { vars ≤ 65536 }
     ensures { result ≡ lits_ok lits.now vars 0 (length lits.now) }
 {
-    let mut stamps = [0u32; 65536];
-    let len = lits.len();
-    lits_ok(vars, lits, 0, len, &mut stamps, 1)
+    let mut stamps = [0; 65536];
+    lits_ok(vars, lits, &mut stamps, 1)
 }
 
 // Mark 0, spare bits 0, and glue 0 for an original.
+#[tactic(auto, unfolding(calls::specs::StorePasses::head_ok))]
 fn head_ok(head: u32) -> bool
     ensures { result ≡ head_ok head }
 {
-    if mark_of(head) {
-        return false;
-    }
-    if spare_of(head) != 0 {
-        return false;
-    }
-    if tier_of(head) != 0 {
-        return true;
-    }
-    glue_of(head) == 0
+    !mark_of(head) && spare_of(head) == 0 && (tier_of(head) != 0 || glue_of(head) == 0)
 }
 
 // The clause at an offset, which ends by the used length (`all_placed`). The stamps are those of earlier clauses: offsets rise, so each is at most this offset.
-fn clause_ok(vars: usize, words: &[u32], offset: usize, stamps: &mut [u32]) -> bool
+#[tactic(auto, using(crate::proofs::Literals::lits_part, crate::proofs::Literals::below_wider), unfolding(calls::specs::StorePasses::clause_ok, kinds::specs::Floats::activity_ok))]
+fn clause_ok(vars: usize, words: &[u32], offset: usize, stamps: &mut [u32; 65536]) -> bool
     requires vars_bound { (vars ≤ 65536) × (end_at words.now offset ≤ length words.now) × (length words.now ≤ 2 ^ 24) }
-    requires stamps_len { (length stamps.old ≡ 65536) × Below stamps.old (offset + 1) }
+    requires below { Below stamps.old (offset + 1) }
     ensures { (result ≡ clause_ok words.now vars offset) × Below stamps.new (offset + 2) }
 {
     let len = word(words, offset + 2);
@@ -133,120 +104,89 @@ fn clause_ok(vars: usize, words: &[u32], offset: usize, stamps: &mut [u32]) -> b
     if vars < len {
         return false;
     }
+    let lits = &words[offset + 3..offset + 3 + len];
     let stamp = (offset + 1) as u32;
-    if !lits_ok(vars, words, offset + 3, len, stamps, stamp) {
-        return false;
-    }
-    let head = words[offset + 1];
-    if !head_ok(head) {
-        return false;
-    }
     // the limit's pattern
-    word(words, offset) <= 0x7d7f_ffff
-}
-
-// Clause i of the list, if it is live.
-fn clause_ok_at(vars: usize, words: &[u32], clauses: &[u32], i: usize, stamps: &mut [u32]) -> bool
-    requires vars_bound { (vars ≤ 65536) × (i < length clauses.now) × (end_at words.now (at clauses.now i) ≤ length words.now) × (length words.now ≤ 2 ^ 24) }
-    requires stamps_len { (length stamps.old ≡ 65536) × Below stamps.old (at clauses.now i + 1) }
-    ensures { (result ≡ clause_ok_at words.now vars clauses.now i) × Below stamps.new (at clauses.now i + 2) }
-{
-    let offset = word(clauses, i);
-    if deleted_at(words, offset) {
-        return true;
-    }
-    clause_ok(vars, words, offset, stamps)
+    lits_ok(vars, lits, stamps, stamp) && head_ok(words[offset + 1]) && words[offset] <= 0x7d7f_ffff
 }
 
 // The clauses are placed (`all_placed`), here and below.
-fn clauses_ok(vars: usize, used: usize, words: &[u32], clauses: &[u32], n: usize) -> bool
-    requires used_in_bounds { (used ≤ length words.now) × (length words.now ≤ 2 ^ 24) × (n ≤ length clauses.now) × (vars ≤ 65536) }
-    requires n_value { placed words.now used clauses.now n ≡ true }
-    ensures { result ≡ clauses_ok words.now vars clauses.now n }
+fn clauses_ok(vars: usize, used: usize, words: &[u32], clauses: &[u32]) -> bool
+    requires used_in_bounds { (used ≤ length words.now) × (length words.now ≤ 2 ^ 24) × (vars ≤ 65536) }
+    requires placed { placed words.now used clauses.now (length clauses.now) ≡ true }
+    ensures { result ≡ clauses_ok words.now vars clauses.now (length clauses.now) }
 {
-    let mut stamps = [0u32; 65536];
-    let mut i = 0;
-    while i < n {
-        if !clause_ok_at(vars, words, clauses, i, &mut stamps) {
+    let mut stamps = [0; 65536];
+    for offset in clauses {
+        let offset = *offset as usize;
+        if deleted_at(words, offset) {
+            continue;
+        }
+        if !clause_ok(vars, words, offset, &mut stamps) {
             return false;
         }
-        i += 1;
     }
     true
 }
 
 // ---- "The four counts equal the live clauses per tier."
 
-fn tally(used: usize, words: &[u32], clauses: &[u32], n: usize) -> [usize; 4]
-    requires used_in_bounds { (used ≤ length words.now) × (n ≤ length clauses.now) }
-    requires n_value { placed words.now used clauses.now n ≡ true }
-    ensures { Tally words.now clauses.now n result }
+fn tally(used: usize, words: &[u32], clauses: &[u32]) -> [usize; 4]
+    requires used_in_bounds { used ≤ length words.now }
+    requires placed { placed words.now used clauses.now (length clauses.now) ≡ true }
+    ensures { Tally words.now clauses.now (length clauses.now) result }
 {
-    let mut counts = [0usize; 4];
-    let mut i = 0;
-    while i < n {
-        let offset = word(clauses, i);
-        i += 1;
+    let mut counts = [0; 4];
+    for offset in clauses {
+        let offset = *offset as usize;
         if !deleted_at(words, offset) {
-            let tier = tier_at(words, offset);
-            counts[tier] = counts[tier] + 1;
+            counts[tier_at(words, offset)] += 1;
         }
     }
     counts
 }
 
-fn counts_ok(used: usize, counts: [usize; 4], words: &[u32], clauses: &[u32], n: usize) -> bool
-    requires used_in_bounds { (used ≤ length words.now) × (n ≤ length clauses.now) }
-    requires n_value { placed words.now used clauses.now n ≡ true }
-    ensures { result ≡ counts_ok words.now clauses.now n counts }
+fn counts_ok(used: usize, counts: [usize; 4], words: &[u32], clauses: &[u32]) -> bool
+    requires used_in_bounds { used ≤ length words.now }
+    requires placed { placed words.now used clauses.now (length clauses.now) ≡ true }
+    ensures { result ≡ counts_ok words.now clauses.now (length clauses.now) counts }
 {
-    let live = tally(used, words, clauses, n);
-    if counts[0] != live[0] {
-        return false;
-    }
-    if counts[1] != live[1] {
-        return false;
-    }
-    if counts[2] != live[2] {
-        return false;
-    }
-    counts[3] == live[3]
+    counts == tally(used, words, clauses)
 }
 
 // ---- "Garbage plus live words (length + 3 each) is at most the used length."
 
-fn live_words(used: usize, words: &[u32], clauses: &[u32], n: usize) -> usize
-    requires used_in_bounds { (used ≤ length words.now) × (n ≤ length clauses.now) }
-    requires n_value { placed words.now used clauses.now n ≡ true }
-    ensures { result ≡ sum_below (live_size words.now clauses.now) n }
+fn live_words(used: usize, words: &[u32], clauses: &[u32]) -> usize
+    requires used_in_bounds { used ≤ length words.now }
+    requires placed { placed words.now used clauses.now (length clauses.now) ≡ true }
+    ensures { result ≡ sum_below (live_size words.now clauses.now) (length clauses.now) }
 {
     let mut total = 0;
-    let mut i = 0;
-    while i < n {
-        let offset = word(clauses, i);
-        i += 1;
+    for offset in clauses {
+        let offset = *offset as usize;
         if !deleted_at(words, offset) {
-            total = total + (word(words, offset + 2) + 3);
+            total += word(words, offset + 2) + 3;
         }
     }
     total
 }
 
-fn garbage_ok(used: usize, garbage: usize, words: &[u32], clauses: &[u32], n: usize) -> bool
-    requires used_in_bounds { (used ≤ length words.now) × (n ≤ length clauses.now) }
-    requires n_value { placed words.now used clauses.now n ≡ true }
-    ensures { result ≡ garbage_ok words.now used clauses.now n garbage }
+fn garbage_ok(used: usize, garbage: usize, words: &[u32], clauses: &[u32]) -> bool
+    requires used_in_bounds { used ≤ length words.now }
+    requires placed { placed words.now used clauses.now (length clauses.now) ≡ true }
+    ensures { result ≡ garbage_ok words.now used clauses.now (length clauses.now) garbage }
 {
     if used < garbage {
         return false;
     }
-    let live = live_words(used, words, clauses, n);
+    let live = live_words(used, words, clauses);
     live <= used - garbage
 }
 
 // ---- all of it
 
 // Refusal 1 has judged the sizes.
+#[tactic(auto, using(crate::proofs::Whole::placed_used, crate::proofs::Whole::clauses_used, crate::proofs::Whole::counts_used, crate::proofs::Whole::garbage_used))]
 pub fn words_pass(
     vars: usize,
     used: usize,
@@ -259,16 +199,11 @@ pub fn words_pass(
     requires { (used ≤ length words.now) × (length words.now ≤ 2 ^ 24) × (n ≤ length clauses.now) × (vars ≤ 65536) }
     ensures { result ≡ placed words.now used clauses.now n && (clauses_ok words.now vars clauses.now n && (counts_ok words.now clauses.now n counts && garbage_ok words.now used clauses.now n garbage)) }
 {
-    if !all_placed(words, used, clauses, n) {
-        return false;
-    }
-    if !clauses_ok(vars, used, words, clauses, n) {
-        return false;
-    }
-    if !counts_ok(used, counts, words, clauses, n) {
-        return false;
-    }
-    garbage_ok(used, garbage, words, clauses, n)
+    let clauses = &clauses[..n];
+    all_placed(words, used, clauses)
+        && clauses_ok(vars, used, words, clauses)
+        && counts_ok(used, counts, words, clauses)
+        && garbage_ok(used, garbage, words, clauses)
 }
 
 // ---- the search for a clause, by bisection of the rising list
@@ -278,17 +213,7 @@ pub fn seek(clauses: &[u32], n: usize, x: usize) -> usize
     requires { (n ≤ length clauses.now) × Rising clauses.now n }
     ensures { Split clauses.now n x result }
 {
-    let mut low = 0;
-    let mut high = n;
-    while low < high {
-        let mid = low + (high - low) / 2;
-        if word(clauses, mid) <= x {
-            low = mid + 1;
-        } else {
-            high = mid;
-        }
-    }
-    low
+    clauses[..n].partition_point(|offset| *offset as usize <= x)
 }
 
 // Where the offset e stands among the first n, or n.
@@ -296,14 +221,10 @@ pub fn find(clauses: &[u32], n: usize, e: usize) -> usize
     requires { (n ≤ length clauses.now) × Rising clauses.now n }
     ensures { Found clauses.now n e result }
 {
-    let k = seek(clauses, n, e);
-    if k == 0 {
-        return n;
+    match clauses[..n].binary_search_by(|offset| (*offset as usize).cmp(&e)) {
+        Ok(k) => k,
+        Err(_) => n,
     }
-    if word(clauses, k - 1) == e {
-        return k - 1;
-    }
-    n
 }
 
 // "Live means listed and not deleted." Refusal 2 has judged the placing.
@@ -312,9 +233,5 @@ pub fn is_live(words: &[u32], used: usize, clauses: &[u32], n: usize, e: usize) 
     requires n_value { placed words.now used clauses.now n ≡ true }
     ensures { result ≡ is_live words.now (take n clauses.now) e }
 {
-    let k = find(clauses, n, e);
-    if n <= k {
-        return false;
-    }
-    !deleted_at(words, e)
+    find(clauses, n, e) < n && !deleted_at(words, e)
 }

@@ -1,4 +1,5 @@
 pub mod Values
+pub mod Told
 pub mod Layouts
 pub mod RowLayout
 pub mod TierLayout

@@ -26,6 +26,7 @@ pub enum Tier {
     Local,
 }
 
+// An enum of its own and no `Option<bool>`: docs/01-scope.md asks for "an enum answer, taken apart at once", opened by let .. else.
 #[derive(Clone, Copy)]
 pub enum LitValue {
     True,
@@ -71,65 +72,65 @@ pub struct State {
     pub activity: ClauseActivity,
 }
 
-// Why a call is refused.
+// What the host lends: per variable an assignment byte, a reason in two buffers and a level; the trail with its used length; the current level.
 #[derive(Clone, Copy)]
+pub struct HostSide<'a> {
+    pub values: &'a [u8],
+    pub kinds: &'a [u8],
+    pub reasons: &'a [u32],
+    pub levels: &'a [u32],
+    pub trail: &'a [u32],
+    pub assigned: usize,
+    pub level: usize,
+}
+
+// Why a call is refused: the table's numbers.
+#[derive(Clone, Copy, Debug, PartialEq, Eq)]
 pub enum Refusal {
-    Size,
-    Store,
-    Host,
-    Clause,
-    Tier,
-    Reference,
-    Original,
-    Asserting,
-    Level,
-    Open,
-    Room,
-    Decay,
+    Size = 1,
+    Store = 2,
+    Host = 3,
+    Clause = 4,
+    Tier = 5,
+    Reference = 6,
+    Original = 7,
+    Asserting = 8,
+    Level = 9,
+    Open = 10,
+    Room = 11,
+    Decay = 12,
 }
 
-// The answer of a call that says no more than that it was done.
+// What a changing call leaves. A refused one answers its refusal alone: the state, by value, is the caller's as it was.
+// Where it says no more than that it was done, the state alone.
+
+// Adding a long clause: its reference.
 #[derive(Clone, Copy)]
-pub enum Plain {
-    Done,
-    Refused(Refusal),
+pub struct Added {
+    pub cref: ClauseRef,
+    pub state: State,
 }
 
-// The answer of adding a long clause.
+// A call after which watch lists may have to be built anew.
 #[derive(Clone, Copy)]
-pub enum Added {
-    At(ClauseRef),
-    Refused(Refusal),
+pub struct Changed {
+    pub rebuild: bool,
+    pub state: State,
 }
 
-// The answer of a call after which watch lists may have to be built anew.
+// `prove_units`: whether there is a new unit, and the trail's used length.
 #[derive(Clone, Copy)]
-pub enum Changed {
-    Rebuild,
-    Keep,
-    Refused(Refusal),
+pub struct Proved {
+    pub new_unit: bool,
+    pub state: State,
+    pub assigned: usize,
 }
 
-// The answer of `prove_units`.
+// Assessing: the tier and the glue of the new header.
 #[derive(Clone, Copy)]
-pub enum Proved {
-    NewUnit,
-    NoNewUnit,
-    Refused(Refusal),
-}
-
-// The answer of assessing: the tier and the glue of the new header.
-#[derive(Clone, Copy)]
-pub enum Assessed {
-    As(Tier, u32),
-    Refused(Refusal),
-}
-
-// The answer of a clause view at a place.
-#[derive(Clone, Copy)]
-pub enum Place {
-    Holds(Lit),
-    Nothing,
+pub struct Assessed {
+    pub tier: Tier,
+    pub glue: u32,
 }
 
 // What the literals of a long clause come to under an assignment: the number of those that are left.
@@ -138,40 +139,6 @@ pub enum Verdict {
     Satisfied,
     Same,
     Shorter(usize),
-}
-
-// A changing call gives its answer and the state.
-#[derive(Clone, Copy)]
-pub struct PlainReply {
-    pub answer: Plain,
-    pub state: State,
-}
-
-#[derive(Clone, Copy)]
-pub struct AddedReply {
-    pub answer: Added,
-    pub state: State,
-}
-
-#[derive(Clone, Copy)]
-pub struct ChangedReply {
-    pub answer: Changed,
-    pub state: State,
-}
-
-// `prove_units` gives the trail's used length besides.
-#[derive(Clone, Copy)]
-pub struct ProvedReply {
-    pub answer: Proved,
-    pub state: State,
-    pub assigned: usize,
-}
-
-// Setting the decay takes and gives bump and inverse decay alone.
-#[derive(Clone, Copy)]
-pub struct DecayReply {
-    pub answer: Plain,
-    pub activity: ClauseActivity,
 }
 
 // ---- literals and variables
@@ -218,16 +185,11 @@ impl Tier {
     pub fn number(self) -> u32
         ensures { (result ≡ tier_number self) × (result < 4) }
     {
-        match self {
-            Tier::Irred => 0,
-            Tier::Core => 1,
-            Tier::Mid => 2,
-            Tier::Local => 3,
-        }
+        self as u32
     }
 }
 
-// The source's `Tier::from_index`.
+// The source's `Tier::from_index`: its callers hold two bits, so that it can't fail and is no `TryFrom`.
 pub fn tier_from(number: u32) -> Tier
     requires { number < 4 }
     ensures { tier_number result ≡ number }
@@ -273,44 +235,12 @@ pub fn node_at(kinds: &[u8], reasons: &[u32], levels: &[u32], var: Var) -> Node
     }
 }
 
-// ---- refusals, by the table's number
+// ---- refusals
 
-pub fn refusal_of(number: usize) -> Refusal
-    requires { (0 < number) × (number ≤ 12) }
-    ensures { refusal_number result ≡ number }
-{
-    if number <= 1 {
-        return Refusal::Size;
+impl From<Refusal> for u32 {
+    ghost from_gives = { λ r n. n ≡ refusal_number r };
+
+    fn from(refusal: Refusal) -> u32 {
+        refusal as u32
     }
-    if number <= 2 {
-        return Refusal::Store;
-    }
-    if number <= 3 {
-        return Refusal::Host;
-    }
-    if number <= 4 {
-        return Refusal::Clause;
-    }
-    if number <= 5 {
-        return Refusal::Tier;
-    }
-    if number <= 6 {
-        return Refusal::Reference;
-    }
-    if number <= 7 {
-        return Refusal::Original;
-    }
-    if number <= 8 {
-        return Refusal::Asserting;
-    }
-    if number <= 9 {
-        return Refusal::Level;
-    }
-    if number <= 10 {
-        return Refusal::Open;
-    }
-    if number <= 11 {
-        return Refusal::Room;
-    }
-    Refusal::Decay
 }

@@ -1,7 +1,7 @@
 // Refusal 10 of `unit_simplify`: clauses with no true literal and fewer than two unassigned.
 #![tactic(auto)]
 
-ghost use Rattle.std.specs.Prelude.{◌≡◌, Bool, false, List, ℕ, ◌+◌, ◌*◌, ◌≤◌, ◌<◌, length};
+ghost use Rattle.std.specs.Prelude.{◌≡◌, false, ℕ, ◌+◌, ◌*◌, ◌≤◌, ◌<◌, length};
 ghost use Rattle.laws.specs.Fold.{any_below};
 ghost use Rattle.laws.specs.Lists.{at, list_at};
 ghost use Rattle.kinds.specs.Clauses.{len_at, end_at, deleted_at, var_of};
@@ -15,12 +15,9 @@ pub fn lacks(lits: &[u32], values: &[u8]) -> bool
     requires { (p : ℕ) → p < length lits.now → var_of (at lits.now p) < length values.now }
     ensures { result ≡ lacking values.now lits.now }
 {
-    let n = lits.len();
-    let mut i = 0usize;
     let mut free = 0usize;
-    while i < n {
-        let value = kinds::lit_value(values, Lit(lits[i]));
-        i += 1;
+    for &lit in lits {
+        let value = kinds::lit_value(values, Lit(lit));
         let LitValue::True = value else {
             let LitValue::Unassigned = value else {
                 continue;
@@ -39,15 +36,12 @@ pub fn long_lacks(words: &[u32], clauses: &[u32], n: usize, values: &[u8]) -> bo
     requires by_index { (i : ℕ) → i < n → deleted_at words.now (at clauses.now i) ≡ false → (p : ℕ) → p < len_at words.now (at clauses.now i) → var_of (at words.now (at clauses.now i + 3 + p)) < length values.now }
     ensures { result ≡ any_below (long_lacks values.now words.now clauses.now) n }
 {
-    let mut i = 0usize;
-    while i < n {
-        let offset = clauses[i] as usize;
-        i += 1;
+    for &clause in &clauses[..n] {
+        let offset = clause as usize;
         if header::deleted_of(words[offset + 1]) {
             continue;
         }
-        let lits = alloc::lits(words, offset);
-        if lacks(lits, values) {
+        if lacks(alloc::lits(words, offset), values) {
             return true;
         }
     }
@@ -60,15 +54,11 @@ pub fn row_lacks(row: &[u32], code: u32, values: &[u8]) -> bool
     requires by_index { (p : ℕ) → p < length row.now → var_of (at row.now p) < length values.now }
     ensures { result ≡ any_below (pair_lacks values.now code row.now) (length row.now) }
 {
-    let n = row.len();
     let negated = Lit(code).negated().0;
-    let mut i = 0usize;
-    while i < n {
-        let pair = [negated, row[i]];
-        if lacks(&pair, values) {
+    for &other in row {
+        if lacks(&[negated, other], values) {
             return true;
         }
-        i += 1;
     }
     false
 }
@@ -79,14 +69,12 @@ pub fn rows_lack(rows: &[u32], room: usize, counts: &[u32], values: &[u8]) -> bo
     requires by_index { (c p : ℕ) → c < length counts.now → p < length (list_at (rows_of room counts.now rows.now) c) → var_of (at (list_at (rows_of room counts.now rows.now) c) p) < length values.now }
     ensures { result ≡ any_below (row_lacks values.now (rows_of room counts.now rows.now)) (length counts.now) }
 {
-    let n = counts.len();
-    let mut c = 0usize;
-    while c < n {
-        let row = binary::implied(rows, room, counts, Lit(c as u32));
-        if row_lacks(row, c as u32, values) {
+    for c in 0..counts.len() {
+        let code = c as u32;
+        let row = binary::implied(rows, room, counts, Lit(code));
+        if row_lacks(row, code, values) {
             return true;
         }
-        c += 1;
     }
     false
 }

@@ -1,7 +1,9 @@
+pub mod Chains
 pub mod Choices
 pub mod Fills
 pub mod Filling
 pub mod Folds
+pub mod Parts
 pub mod Reading
 pub mod Sorting
 pub mod Members

@@ -1,13 +1,13 @@
 -- `prove_units` on what is lent: what the code may take for granted, what its writes come to, and what the room test says. Assumes nothing.
 use mathlib.Core.Path.{◌≡◌, refl, sym, ap, ap₂, ◌∙◌, subst}
-use mathlib.Core.Bool.{Bool, true, false, cond, not, ◌&&◌, ◌||◌}
-use mathlib.Core.List.{List, [], ◌∷◌, ◌++◌}
+use mathlib.Core.Bool.{Bool, true, false, cond, ◌&&◌}
+use mathlib.Core.List.{List, [], ◌++◌}
 use Prim.Native.Nat.{ℕ, zero, suc, ◌+◌, ◌-◌, ◌*◌, ◌^◌, ◌≤◌, ◌<◌}
 use native.Mathlib.Omega.{arith}
-use lib.ListN.{length, set, take, drop, replicate, length-append}
+use lib.ListN.{length, set, take, replicate, length-append}
 use lib.Seq.{sets, length-take-le, get_or-take}
-use lib.Dec.{eqb, leb}
-use borrow.Author.Tests.{le-leb, leb-true}
+use lib.Dec.{leb}
+use borrow.Author.Tests.{not-true, le-leb}
 use Rattle.laws.specs.Lists.{at, fill}
 use Rattle.laws.proofs.Folds.{and_both, and_left, and_right}
 use Rattle.laws.proofs.Fills.{fill_append, fill_same, fill_cut}
@@ -24,7 +24,6 @@ use Rattle.calls.specs.Refusing.{own, lowest}
 use Rattle.calls.specs.Simplifying.{units_proved}
 use Rattle.calls.specs.Outcome.{judged, refused_for, has_room, step, own_number}
 use Rattle.calls.proofs.Laws.{has_room_lem}
-use Rattle.calls.proofs.Given.{not_not}
 use Rattle.calls.proofs.Readings.{words_pass_lem, held_words, side_pass, reasons_pass, reason_read}
 use Rattle.calls.proofs.Judged.{sizes_judged, store_judged, host_judged, words_sized_lem, clauses_sized, record_sized_lem, levels_long, host_sized_lem, record_fits}
 use Rattle.prove_units.specs.Units.{reason_line, trail_lines, trail_set, TrailReady}
@@ -60,14 +59,10 @@ module _ (s : State) (words clauses rec values kinds reasons levels trail : List
         let w = held_words (view k) (words_pass_lem words_record_host (view k) (store_judged words_record_host k j) refl) in
         let p = elem_place o (take s.clauses clauses) (and_left _ _ e) in
         let z = words_sized_lem words_record_host k (sizes_judged words_record_host k j) refl in
-        let d : deleted_at words o ≡ false = down (deleted_at words o) (and_right (Rattle.laws.specs.Lists.elem o (take s.clauses clauses)) _ e) in
+        let d : deleted_at words o ≡ false = not-true (deleted_at words o) (and_right (Rattle.laws.specs.Lists.elem o (take s.clauses clauses)) _ e) in
         let q : end_at words o ≤ s.words = subst (λ (x : ℕ). end_at words x ≤ s.words) p.2 (w.ends p.0 p.1) in
         let c : 3 ≤ len_at words o = subst (λ (x : ℕ). deleted_at words x ≡ false → 3 ≤ len_at words x) p.2 (λ f. (w.clause p.0 p.1 f).three) d in
         (omega (arith, q, z.used), omega (arith, c))
-      where
-        down : (b : Bool) → not b ≡ true → b ≡ false
-        down true f = sym f
-        down false f = refl
 
     trail_ready : TrailReady words kinds reasons levels (take assigned trail) (length (take assigned trail))
     unfolding view side

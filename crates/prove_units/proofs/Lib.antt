@@ -1,5 +1,5 @@
 pub mod Reasons
-pub mod Leaf
 pub mod Trail
 pub mod Step
 pub mod Lent
+pub mod Answered

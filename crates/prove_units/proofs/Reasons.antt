@@ -1,49 +1,23 @@
 -- The line of a trail literal, by its reason. Assumes nothing.
 use mathlib.Core.Path.{◌≡◌, refl, sym, ap, ap₂, ◌∙◌, subst}
-use mathlib.Core.Bool.{Bool, true, false, cond}
-use mathlib.Core.Logic.{⊎_elim, ◌⊎◌}
-use mathlib.Core.List.{List, [], ◌∷◌, ◌++◌}
-use Prim.Native.Nat.{ℕ, zero, suc, ◌+◌, ◌-◌, ◌*◌, ◌^◌, ◌≤◌, ◌<◌}
+use mathlib.Core.Bool.{cond}
+use mathlib.Core.List.{List, [], ◌∷◌}
+use Prim.Native.Nat.{ℕ, zero, suc, ◌+◌, ◌-◌, ◌^◌, ◌≤◌}
 use native.Mathlib.Omega.{arith}
-use native.Mathlib.Numerals.{add-one, add-two}
-use denote.Enum.Declared.{tag_of}
-use lib.ListN.{length, set, take, drop, length-drop}
-use lib.Seq.{sets, drop-cons}
+use lib.ListN.{length, set, drop}
+use lib.Seq.{sets}
 use lib.Dec.{eqb}
-use Rattle.laws.specs.Lists.{at, read_n}
+use Rattle.laws.specs.Lists.{read_n}
 use Rattle.laws.proofs.Reading.{length_read, sets_three}
 use Rattle.kinds.specs.Clauses.{len_at, lits_at, end_at}
 use Rattle.kinds.specs.Lines.{line, line_words}
 use Rattle.kinds.specs.Numbers.{reason_of}
 use Rattle.kinds.specs.declared.Reason.{Reason}
 use Rattle.kinds.specs.declared.Reason.TheVariants.{None, Unit as UnitReason, Binary, Long, Removed}
-use Rattle.kinds.specs.declared.Lit.{Lit}
 use Rattle.kinds.specs.declared.ClauseRef.{ClauseRef}
-use Rattle.kinds.specs.contracts.Reason as reason
 use Rattle.prove_units.specs.Units.{reason_line, ReasonIn}
 
-abbrev pub rtag : Reason → ℕ
-rtag r = tag_of reason.the_type r
-
--- the numbers that a test leaves
-pub not_two : (x : ℕ) → (x ≡ 0) ⊎ ((x ≡ 1) ⊎ ((x ≡ 3) ⊎ (x ≡ 4))) → x ≡ 2 → ⊥
-not_two x p q = ⊎_elim (λ e. omega arith) (λ r. ⊎_elim (λ e. omega arith) (λ r. ⊎_elim (λ e. omega arith) (λ e. omega arith) r) r) p
-
-pub not_three : (x : ℕ) → (x ≡ 0) ⊎ ((x ≡ 1) ⊎ ((x ≡ 2) ⊎ (x ≡ 4))) → x ≡ 3 → ⊥
-not_three x p q = ⊎_elim (λ e. omega arith) (λ r. ⊎_elim (λ e. omega arith) (λ r. ⊎_elim (λ e. omega arith) (λ e. omega arith) r) r) p
-
 module _ (ws : List ℕ) (l : ℕ) where
-  -- neither binary nor long
-  pub line_none : (r : Reason) → (rtag r ≡ 2 → ⊥) → (rtag r ≡ 3 → ⊥) → reason_line ws r l ≡ []
-  line_none None p q = refl
-  line_none UnitReason p q = refl
-  line_none (Binary b) p q = absurd (p refl)
-  line_none (Long c) p q = absurd (q refl)
-  line_none Removed p q = refl
-
-  pub line_binary : (r : Reason) (b : Lit) → r ≡ Binary b → reason_line ws r l ≡ 1 ∷ 2 ∷ l ∷ b.0 ∷ []
-  line_binary r b e = ap (λ (x : Reason). reason_line ws x l) e
-
   module _ (r : Reason) (c : ClauseRef) (e : r ≡ Long c) (i : ReasonIn ws r) where
     pub in_words : (end_at ws c.0 ≤ length ws) × (1 ≤ len_at ws c.0)
     in_words = subst (ReasonIn ws) e i
@@ -75,17 +49,6 @@ module _ (ws : List ℕ) (l : ℕ) where
       omega (arith, long_size, q),
       sets_three rec rec' used 1 n l (read_n ws (c.0 + 4) (n - 1)) f ∙ ap (λ (m : ℕ). sets rec used (1 ∷ m ∷ l ∷ read_n ws (c.0 + 4) (m - 1))) q ∙ ap (sets rec used) (sym line_long),
     )
-
-  pub none_said : (r : Reason) (rec : List ℕ) (used : ℕ) → reason_line ws r l ≡ [] → (used ≡ used + length (reason_line ws r l)) × (rec ≡ sets rec used (reason_line ws r l))
-  none_said r rec used e = (omega (arith, ap length e), sym (ap (sets rec used) e))
-
-  pub binary_said : (r : Reason) (b : Lit) → r ≡ Binary b → (rec : List ℕ) (used : ℕ)
-      → (used + 4 ≡ used + length (reason_line ws r l)) × (set (set (set (set rec used 1) (used + 1) 2) (used + 2) l) (used + 3) b.0 ≡ sets rec used (reason_line ws r l))
-  binary_said r b e rec used =
-      let x : used + 1 ≡ suc used = omega arith in
-      let y : used + 2 ≡ suc (suc used) = omega arith in
-      let z : used + 3 ≡ suc (suc (suc used)) = omega arith in
-      (omega (arith, ap length (line_binary r b e)), rw (x, y, z) (ap (sets rec used) (sym (line_binary r b e))))
 
 pub line_small : (ws : List ℕ) (r : Reason) (l : ℕ) → ReasonIn ws r → length ws ≤ 2 ^ 24 → length (reason_line ws r l) ≤ 2 ^ 25
 line_small ws None l i h = omega arith

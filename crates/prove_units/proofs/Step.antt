@@ -1,34 +1,21 @@
 -- `prove_units` on what is lent: what the code may take for granted, what its writes come to, and what the room test says. Assumes nothing.
-use mathlib.Core.Path.{◌≡◌, refl, sym, ap, ap₂, ◌∙◌, subst}
-use mathlib.Core.Bool.{Bool, true, false, cond, not, ◌&&◌, ◌||◌}
+use mathlib.Core.Path.{◌≡◌, refl, sym, ap, ap₂, ◌∙◌}
+use mathlib.Core.Bool.{Bool, true, false, cond}
 use mathlib.Core.List.{List, [], ◌∷◌, ◌++◌, append_assoc, append-nil}
-use Prim.Native.Nat.{ℕ, zero, suc, ◌+◌, ◌-◌, ◌*◌, ◌^◌, ◌≤◌, ◌<◌}
+use Prim.Native.Nat.{ℕ, zero, suc, ◌+◌, ◌≤◌, ◌<◌}
 use native.Mathlib.Omega.{arith}
 use native.Mathlib.Numerals.{add-one}
-use lib.ListN.{length, set, take, drop, replicate, length-append}
-use lib.Seq.{sets, take-suc, take_all, length-take-le, get_or-take}
-use lib.Dec.{eqb, leb}
-use borrow.Author.Tests.{le-leb, leb-true, eq-eqb, ne_eqb}
+use lib.ListN.{length, set, take, drop}
+use lib.Seq.{take-suc, take_all}
+use lib.Dec.{eqb}
+use borrow.Author.Tests.{eq-eqb, ne_eqb}
 use Rattle.laws.specs.Fold.{fold_list}
-use Rattle.laws.specs.Lists.{at, fill}
-use Rattle.laws.proofs.Folds.{and_both, and_left, and_right}
-use Rattle.laws.proofs.Fills.{fill_append, fill_same, fill_cut}
-use Rattle.laws.proofs.Entries.{elem_place}
-use Rattle.kinds.specs.Clauses.{len_at, lits_at, end_at, deleted_at, is_live, var_of}
+use Rattle.laws.specs.Lists.{at}
+use Rattle.kinds.specs.Clauses.{lits_at, var_of}
 use Rattle.kinds.specs.Lines.{line, line_words}
 use Rattle.kinds.specs.Numbers.{reason_of}
-use Rattle.kinds.specs.Lent.{Lent, Host, lent_words, host_of}
-use Rattle.kinds.specs.Setters.{state_of}
 use Rattle.kinds.specs.Held.{Held, Side, with_host, with_reasons, with_rec, noted, kind_of, reason_word}
-use Rattle.kinds.specs.Layout.{view, side, lay, lay_state, lay_host, fit}
-use Rattle.kinds.specs.declared.State.{State}
-use Rattle.calls.specs.Call.{prove_units, parts, words_record_host}
-use Rattle.calls.specs.Refusing.{own, lowest}
 use Rattle.calls.specs.Simplifying.{rest_of_reason, unit_noted, unit_removed, unit_done, trail_emptied, units_proved}
-use Rattle.calls.specs.Outcome.{judged, refused_for, has_room, step, own_number, or_else}
-use Rattle.calls.proofs.Laws.{has_room_lem}
-use Rattle.calls.proofs.Readings.{words_pass_lem, held_words, side_pass, reasons_pass, reason_read}
-use Rattle.calls.proofs.Judged.{sizes_judged, store_judged, host_judged, words_sized_lem, clauses_sized, record_sized_lem, levels_long, host_sized_lem, record_fits}
 use Rattle.prove_units.specs.Units.{reason_line, trail_lines, trail_set, TrailReady}
 use Rattle.prove_units.proofs.Reasons.{line_of_kind}
 use Rattle.prove_units.proofs.Trail.{lines_next, set_next, set_before}

@@ -1,18 +1,14 @@
 -- The loop over the trail's literals. Assumes nothing.
 use mathlib.Core.Path.{◌≡◌, refl, sym, ap, ap₂, ◌∙◌, subst}
-use mathlib.Core.Bool.{Bool, true, false}
-use mathlib.Core.List.{List, [], ◌∷◌, ◌++◌, append-nil}
+use mathlib.Core.List.{List, ◌++◌}
 use Prim.Native.Nat.{ℕ, zero, suc, ◌+◌, ◌-◌, ◌^◌, ◌≤◌, ◌<◌}
 use native.Mathlib.Omega.{arith}
 use native.Mathlib.Numerals.{add-one}
-use native.Mathlib.Nat.{add-zero}
 use lib.ListN.{length, set, length-set, length-append}
 use lib.Seq.{sets, length-sets, get_or-set_other}
-use lib.Dec.{leb}
-use borrow.Author.Tests.{le-leb, lt-leb}
 use Rattle.laws.specs.Lists.{at}
 use Rattle.laws.proofs.Closing.{sets_append}
-use Rattle.kinds.specs.Clauses.{var_of, len_at, end_at}
+use Rattle.kinds.specs.Clauses.{var_of}
 use Rattle.kinds.specs.Numbers.{reason_of}
 use Rattle.kinds.specs.Held.{node_of}
 use Rattle.kinds.specs.declared.Reason.{Reason}
@@ -56,33 +52,21 @@ pub record Proving (ws ks₀ rs₀ tr rec₀ : List ℕ) (recorded i used : ℕ)
   pub kinds_is : ks ≡ trail_set 4 ks₀ tr i
   pub reasons_is : rs ≡ trail_set 0 rs₀ tr i
 
-pub rec_size : {ws ks₀ rs₀ tr rec₀ : List ℕ} {recorded i used : ℕ} {rec ks rs : List ℕ} → Proving ws ks₀ rs₀ tr rec₀ recorded i used rec ks rs → length rec ≡ length rec₀
-rec_size {ws} {ks₀} {rs₀} {tr} {rec₀} {recorded} {i} P = ap length P.rec_is ∙ length-sets rec₀ recorded (trail_lines ws ks₀ rs₀ tr i)
-
-pub proving_start : (ws ks rs tr rec : List ℕ) (recorded : ℕ) → Proving ws ks rs tr rec recorded 0 recorded rec ks rs
-unfolding trail_lines trail_set
-proving_start ws ks rs tr rec recorded = record { used_is = sym (add-zero recorded); rec_is = refl; kinds_is = refl; reasons_is = refl }
-
 module _ {ws ks₀ rs₀ ls tr : List ℕ} {n : ℕ} (R : TrailReady ws ks₀ rs₀ ls tr n) {i : ℕ} (h : i < n) where
   pub reason_in : ReasonIn ws (reason_of (at ks₀ (var_of (at tr i))) (at rs₀ (var_of (at tr i))))
   reason_in = in_of_kind ws _ _ (R.low i h) (R.high i h) (R.long i h)
 
   module _ {rec₀ rec ks rs : List ℕ} {recorded used : ℕ} (P : Proving ws ks₀ rs₀ tr rec₀ recorded i used rec ks rs) where
-    pub kinds_size : length ks ≡ length ks₀
-    kinds_size = ap length P.kinds_is ∙ set_length 4 ks₀ tr i
-
-    pub reasons_size : length rs ≡ length rs₀
-    reasons_size = ap length P.reasons_is ∙ set_length 0 rs₀ tr i
-
     reason_same : reason_of (at ks (var_of (at tr i))) (at rs (var_of (at tr i))) ≡ reason_of (at ks₀ (var_of (at tr i))) (at rs₀ (var_of (at tr i)))
     reason_same =
         ap₂ reason_of (ap (λ (l : List ℕ). at l (var_of (at tr i))) P.kinds_is ∙ set_before 4 ks₀ tr i (var_of (at tr i)) (λ j g e. R.apart j i g h e))
         (ap (λ (l : List ℕ). at l (var_of (at tr i))) P.reasons_is ∙ set_before 0 rs₀ tr i (var_of (at tr i)) (λ j g e. R.apart j i g h e))
 
-    pub unit_needs : recorded + length (trail_lines ws ks₀ rs₀ tr n) ≤ length rec₀
-        → (used + length (reason_line ws (reason_of (at ks (var_of (at tr i))) (at rs (var_of (at tr i)))) (at tr i)) ≤ length rec) × ReasonIn ws (reason_of (at ks (var_of (at tr i))) (at rs (var_of (at tr i))))
-    unit_needs g =
-        subst (λ (r : Reason). (used + length (reason_line ws r (at tr i)) ≤ length rec) × ReasonIn ws r) (sym reason_same) (
+    -- x is the literal as the code reads it
+    pub unit_needs : {x : ℕ} → x ≡ at tr i → recorded + length (trail_lines ws ks₀ rs₀ tr n) ≤ length rec₀
+        → (used + length (reason_line ws (reason_of (at ks (var_of x)) (at rs (var_of x))) x) ≤ length rec) × ReasonIn ws (reason_of (at ks (var_of x)) (at rs (var_of x)))
+    unit_needs e g =
+        rw e (subst (λ (r : Reason). (used + length (reason_line ws r (at tr i)) ≤ length rec) × ReasonIn ws r) (sym reason_same) (
           omega (
             arith,
             P.used_is,
@@ -93,14 +77,18 @@ module _ {ws ks₀ rs₀ ls tr : List ℕ} {n : ℕ} (R : TrailReady ws ks₀ rs
             length-sets rec₀ recorded (trail_lines ws ks₀ rs₀ tr i),
           ),
           reason_in,
-        )
+        ))
 
-    pub proving_next : {used' : ℕ} {rec' ks' rs' : List ℕ}
-        → (used' ≡ used + length (reason_line ws (reason_of (at ks (var_of (at tr i))) (at rs (var_of (at tr i)))) (at tr i)))
-        × (rec' ≡ sets rec used (reason_line ws (reason_of (at ks (var_of (at tr i))) (at rs (var_of (at tr i)))) (at tr i)))
-        × (ks' ≡ set ks (var_of (at tr i)) 4) × (rs' ≡ set rs (var_of (at tr i)) 0)
+    pub proving_next : {x : ℕ} → x ≡ at tr i → {used' : ℕ} {rec' ks' rs' : List ℕ}
+        → (used' ≡ used + length (reason_line ws (reason_of (at ks (var_of x)) (at rs (var_of x))) x))
+        × (rec' ≡ sets rec used (reason_line ws (reason_of (at ks (var_of x)) (at rs (var_of x))) x))
+        × (ks' ≡ set ks (var_of x) 4) × (rs' ≡ set rs (var_of x) 0)
         → Proving ws ks₀ rs₀ tr rec₀ recorded (i + 1) used' rec' ks' rs'
-    proving_next (p, q, r, s) =
+    proving_next e t =
+        let p = rw e at t.0 in
+        let q = rw e at t.1 in
+        let r = rw e at t.2 in
+        let s = rw e at t.3 in
         let line = reason_line ws (reason_of (at ks₀ (var_of (at tr i))) (at rs₀ (var_of (at tr i)))) (at tr i) in
         let said = ap (λ (x : Reason). reason_line ws x (at tr i)) reason_same in
         record {
@@ -113,23 +101,23 @@ module _ {ws ks₀ rs₀ ls tr : List ℕ} {n : ℕ} (R : TrailReady ws ks₀ rs
         }
 
   -- only counting
-  module _ (n' : Node) {v : ℕ} (e : v ≡ var_of (at tr i)) (f : n' ≡ node_of ks₀ rs₀ ls v) where
+  module _ {n' : Node} {x v : ℕ} (z : x ≡ at tr i) (e : v ≡ var_of x) (f : n' ≡ node_of ks₀ rs₀ ls v) where
     node_reason : n'.reason ≡ reason_of (at ks₀ (var_of (at tr i))) (at rs₀ (var_of (at tr i)))
-    node_reason = ap (λ (x : Node). x.reason) f ∙ ap (λ (x : ℕ). reason_of (at ks₀ x) (at rs₀ x)) e
+    node_reason = ap (λ (y : Node). y.reason) f ∙ ap (λ (y : ℕ). reason_of (at ks₀ y) (at rs₀ y)) (e ∙ ap var_of z)
 
     pub node_in : ReasonIn ws n'.reason
     node_in = subst (ReasonIn ws) (sym node_reason) reason_in
 
-    pub size_next : (recorded : ℕ) {used size : ℕ} → used ≡ recorded + length (trail_lines ws ks₀ rs₀ tr i) → size ≡ length (reason_line ws n'.reason (at tr i)) → used + size ≡ recorded + length (trail_lines ws ks₀ rs₀ tr (i + 1))
+    pub size_next : (recorded : ℕ) {used size : ℕ} → used ≡ recorded + length (trail_lines ws ks₀ rs₀ tr i) → size ≡ length (reason_line ws n'.reason x) → used + size ≡ recorded + length (trail_lines ws ks₀ rs₀ tr (i + 1))
     size_next recorded p q =
         omega (
           arith,
           p,
-          q,
+          rw z at q,
           ap (λ (r : Reason). length (reason_line ws r (at tr i))) node_reason,
           ap length (lines_next ws ks₀ rs₀ tr i),
           length-append (trail_lines ws ks₀ rs₀ tr i) (reason_line ws (reason_of (at ks₀ (var_of (at tr i))) (at rs₀ (var_of (at tr i)))) (at tr i)),
         )
 
-    pub size_small : {size : ℕ} → size ≡ length (reason_line ws n'.reason (at tr i)) → size ≤ 2 ^ 25
-    size_small q = omega (arith, q, line_small ws n'.reason (at tr i) node_in R.most)
+    pub size_small : {size : ℕ} → size ≡ length (reason_line ws n'.reason x) → size ≤ 2 ^ 25
+    size_small q = omega (arith, q, line_small ws n'.reason x node_in R.most)

@@ -1,10 +1,9 @@
 -- The lines of `prove_units`, by the reason of each trail literal, and what the step stands on.
-use Rattle.std.specs.Prelude.{◌≡◌, List, [], ◌∷◌, ◌++◌, ℕ, zero, suc, ◌+◌, ◌^◌, ◌≤◌, ◌<◌, length, drop, set}
+use Rattle.std.specs.Prelude.{◌≡◌, List, [], ◌∷◌, ◌++◌, ℕ, zero, suc, ◌^◌, ◌≤◌, ◌<◌, length, drop, set}
 use Rattle.laws.specs.Lists.{at}
 use Rattle.kinds.specs.Clauses.{len_at, lits_at, end_at, var_of}
 use Rattle.kinds.specs.Lines.{line, line_words}
 use Rattle.kinds.specs.Numbers.{reason_of}
-use Rattle.kinds.specs.Lent.{Lent}
 use Rattle.kinds.specs.declared.Reason.{Reason}
 use Rattle.kinds.specs.declared.Reason.TheVariants.{None, Unit as UnitReason, Binary, Long, Removed}
 

@@ -1,32 +1,32 @@
 // `prove_units` below the judging.
+// The store's buffers are slices beside the state, each a parameter: "a state by value, slices beside it" (docs/01-scope.md, What must change shape).
 #![tactic(auto)]
 
-ghost use Rattle.std.specs.Prelude.{◌≡◌, List, ℕ, ◌+◌, ◌≤◌, ◌<◌, ◌^◌, length, set, leb};
+ghost use Rattle.std.specs.Prelude.{◌≡◌, ◌+◌, ◌≤◌, ◌<◌, ◌^◌, length, set, leb};
 ghost use Rattle.std.proofs.lemmas.List.Edits.{sets};
 ghost use Rattle.laws.specs.Lists.{at};
 ghost use Rattle.kinds.specs.Clauses.{var_of};
 ghost use Rattle.kinds.specs.Numbers.{reason_of};
-ghost use Rattle.kinds.specs.Lent.{lent_words, host_of};
+ghost use Rattle.kinds.specs.Lent.{lent_words, host_of, lent_by};
 ghost use Rattle.kinds.specs.Layout.{view, lay};
 ghost use Rattle.calls.specs.Call.{prove_units, words_record_host};
-ghost use Rattle.calls.specs.Simplifying.{units_proved};
+ghost use Rattle.calls.specs.Simplifying.{units_proved, new_unit};
 ghost use Rattle.calls.specs.Outcome.{judged, own_number};
+ghost use Rattle.calls.specs.Answers.{number_of};
 ghost use Rattle.prove_units.specs.Units.{reason_line, ReasonIn, trail_lines, trail_set, TrailReady};
 
-use kinds::{Lit, Reason, State};
+use kinds::{HostSide, Lit, Proved, Reason, Refusal, State};
 
 // The words of a literal's line.
 pub fn line_size(words: &[u32], reason: Reason, lit: u32) -> usize
     requires { ReasonIn words.now reason }
     ensures { result ≡ length (reason_line words.now reason lit) }
 {
-    let Reason::Binary(_other) = reason else {
-        let Reason::Long(clause) = reason else {
-            return 0;
-        };
-        return buffers::word(words, clause.0 as usize + 2) + 2;
-    };
-    4
+    match reason {
+        Reason::Binary(_) => 4,
+        Reason::Long(clause) => buffers::word(words, clause.0 as usize + 2) + 2,
+        _ => 0,
+    }
 }
 
 // A literal's line behind the used part of the record. Returns the new used length.
@@ -34,23 +34,25 @@ pub fn note_unit(words: &[u32], rec: &mut [u32], used: usize, reason: Reason, li
     requires { (used + length (reason_line words.now reason lit) ≤ length rec.old) × ReasonIn words.now reason }
     ensures { (result ≡ used + length (reason_line words.now reason lit)) × (rec.new ≡ sets rec.old used (reason_line words.now reason lit)) }
 {
-    let Reason::Binary(other) = reason else {
-        let Reason::Long(clause) = reason else {
-            return used;
-        };
-        let offset = clause.0 as usize;
-        let n = buffers::word(words, offset + 2);
-        rec[used] = 1;
-        rec[used + 1] = n as u32;
-        rec[used + 2] = lit;
-        buffers::copy(rec, used + 3, words, offset + 4, n - 1);
-        return used + (n + 2);
-    };
-    rec[used] = 1;
-    rec[used + 1] = 2;
-    rec[used + 2] = lit;
-    rec[used + 3] = other.0;
-    used + 4
+    match reason {
+        Reason::Binary(other) => {
+            rec[used] = 1;
+            rec[used + 1] = 2;
+            rec[used + 2] = lit;
+            rec[used + 3] = other.0;
+            used + 4
+        }
+        Reason::Long(clause) => {
+            let offset = clause.0 as usize;
+            let n = buffers::word(words, offset + 2);
+            rec[used] = 1;
+            rec[used + 1] = n as u32;
+            rec[used + 2] = lit;
+            buffers::copy(rec, used + 3, words, offset + 4, n - 1);
+            used + (n + 2)
+        }
+        _ => used,
+    }
 }
 
 // One trail literal: its line, unless its reason is unit; then it is a removed unit, "a new removed unit's value becomes 0".
@@ -73,8 +75,7 @@ pub fn prove_unit(
 {
     let var = Lit(lit).var();
     let node = kinds::node_at(kinds, reasons, levels, var);
-    let reason = node.reason;
-    let end = note_unit(words, rec, used, reason, lit);
+    let end = note_unit(words, rec, used, node.reason, lit);
     let at = var.0 as usize;
     kinds[at] = 4;
     reasons[at] = 0;
@@ -85,7 +86,7 @@ pub fn prove_unit(
 pub fn prove_trail(
     words: &[u32],
     rec: &mut [u32],
-    recorded: usize,
+    mut recorded: usize,
     kinds: &mut [u8],
     reasons: &mut [u32],
     levels: &[u32],
@@ -99,21 +100,17 @@ pub fn prove_trail(
         × (kinds.new ≡ trail_set 4 kinds.old trail.now n)
         × (reasons.new ≡ trail_set 0 reasons.old trail.now n) }
 {
-    let mut i = 0usize;
-    let mut used = recorded;
-    while i < n {
-        let lit = trail[i];
-        used = prove_unit(words, rec, used, kinds, reasons, levels, lit);
-        i += 1;
+    for &lit in &trail[..n] {
+        recorded = prove_unit(words, rec, recorded, kinds, reasons, levels, lit);
     }
-    used
+    recorded
 }
 
 // Whether a record with room for `cap` words has room for the lines of the first n trail literals. Nothing is written.
 pub fn lines_fit(
     words: &[u32],
     cap: usize,
-    recorded: usize,
+    mut recorded: usize,
     kinds: &[u8],
     reasons: &[u32],
     levels: &[u32],
@@ -124,17 +121,12 @@ pub fn lines_fit(
     requires recorded_le_cap { (recorded ≤ cap) × (cap ≤ 2 ^ 24) }
     ensures { result ≡ leb (recorded + length (trail_lines words.now kinds.now reasons.now trail.now n)) cap }
 {
-    let mut i = 0usize;
-    let mut used = recorded;
-    while i < n {
-        let lit = trail[i];
+    for &lit in &trail[..n] {
         let node = kinds::node_at(kinds, reasons, levels, Lit(lit).var());
-        let reason = node.reason;
-        used += line_size(words, reason, lit);
-        if cap < used {
+        recorded += line_size(words, node.reason, lit);
+        if cap < recorded {
             return false;
         }
-        i += 1;
     }
     true
 }
@@ -145,40 +137,27 @@ pub fn refuse_prove_units(
     words: &[u32],
     clauses: &[u32],
     rec: &[u32],
-    values: &[u8],
-    kinds: &[u8],
-    reasons: &[u32],
-    levels: &[u32],
-    trail: &[u32],
-    assigned: usize,
-    level: usize,
-) -> usize
-    requires { judged words_record_host (lent_words s words.now clauses.now rec.now (host_of values.now kinds.now reasons.now levels.now trail.now assigned level)) ≡ 0 }
-    ensures { result ≡ own_number prove_units (lent_words s words.now clauses.now rec.now (host_of values.now kinds.now reasons.now levels.now trail.now assigned level)) }
+    host: HostSide<'_>,
+) -> Result<(), Refusal>
+    requires { judged words_record_host (lent_words s words.now clauses.now rec.now (lent_by host)) ≡ 0 }
+    ensures { number_of result ≡ own_number prove_units (lent_words s words.now clauses.now rec.now (lent_by host.entry)) }
 {
-    if level != 0 {
-        return 0;
+    if host.level != 0 {
+        return Ok(());
     }
     if lines_fit(
         words,
         rec.len(),
         s.recorded,
-        kinds,
-        reasons,
-        levels,
-        trail,
-        assigned,
+        host.kinds,
+        host.reasons,
+        host.levels,
+        host.trail,
+        host.assigned,
     ) {
-        return 0;
+        return Ok(());
     }
-    11
-}
-
-// The state, and the trail's used length.
-#[derive(Clone, Copy)]
-pub struct Units {
-    pub state: State,
-    pub assigned: usize,
+    Err(Refusal::Room)
 }
 
 // "At level 0 it records, in trail order, each literal whose reason isn't unit, makes all of them removed units and empties the trail."
@@ -194,39 +173,28 @@ pub fn prove_units(
     trail: &mut [u32],
     assigned: usize,
     level: usize,
-) -> Units
+) -> Proved
     requires level_value { judged words_record_host (lent_words s words.now clauses.now rec.old (host_of values.now kinds.old reasons.old levels.now trail.old assigned level)) ≡ 0 }
     requires level_value_2 { own_number prove_units (lent_words s words.now clauses.now rec.old (host_of values.now kinds.old reasons.old levels.now trail.old assigned level)) ≡ 0 }
-    ensures { lent_words result.state words.now clauses.now rec.new (host_of values.now kinds.new reasons.new levels.now trail.new result.assigned level)
+    ensures units_after { lent_words result.state words.now clauses.now rec.new (host_of values.now kinds.new reasons.new levels.now trail.new result.assigned level)
         ≡ lay words_record_host (lent_words s words.now clauses.now rec.old (host_of values.now kinds.old reasons.old levels.now trail.old assigned level))
         (units_proved (view (lent_words s words.now clauses.now rec.old (host_of values.now kinds.old reasons.old levels.now trail.old assigned level)))) }
+    ensures new_value { result.new_unit ≡ new_unit (view (lent_words s words.now clauses.now rec.old (host_of values.now kinds.old reasons.old levels.now trail.old assigned level))) }
 {
     if level != 0 {
-        return Units {
+        return Proved {
+            new_unit: false,
             state: s,
-            assigned: assigned,
+            assigned,
         };
     }
-    let end = prove_trail(
+    let recorded = prove_trail(
         words, rec, s.recorded, kinds, reasons, levels, trail, assigned,
     );
     buffers::clear(trail, 0, assigned);
-    let tiers = s.tiers;
-    let counts = s.counts;
-    let activity = s.activity;
-    let state = State {
-        vars: s.vars,
-        words: s.words,
-        clauses: s.clauses,
-        tiers: tiers,
-        recorded: end,
-        counts: counts,
-        garbage: s.garbage,
-        binary: s.binary,
-        activity: activity,
-    };
-    Units {
-        state: state,
+    Proved {
+        new_unit: assigned != 0,
+        state: State { recorded, ..s },
         assigned: 0,
     }
 }

@@ -12,13 +12,15 @@ use Rattle.laws.proofs.Folds.{and_both, and_fails_left, and_fails_right}
 use Rattle.laws.proofs.Tests.{passed, failed}
 use Rattle.kinds.specs.Header.{saturated}
 use Rattle.kinds.specs.Clauses.{var_of}
+use Rattle.kinds.specs.Numbers.{tier_number}
+use Rattle.kinds.specs.declared.Tier.{Tier}
 use Rattle.kinds.specs.Lent.{Lent, lent_levels}
 use Rattle.kinds.specs.Layout.{view, side, fit}
 use Rattle.calls.specs.Call.{assess, parts, only_levels}
 use Rattle.calls.specs.StorePasses.{lits_ok}
 use Rattle.calls.specs.Bumping.{tier_for, learned_glue}
 use Rattle.calls.specs.Refusing.{lowest, own, clause_wrong}
-use Rattle.calls.specs.Outcome.{Outcome, Answer, assessed, judged, refused_for, has_room, own_number, or_else, step, answer, refused, done}
+use Rattle.calls.specs.Outcome.{Outcome, Answer, assessed, judged, refused_for, has_room, own_number, or_else, step, answer, refused, accepted, done}
 use Rattle.calls.proofs.Judged.{sizes_judged, host_judged, vars_high, levels_long}
 use Rattle.calls.proofs.Readings.{lits_read, levels_pass}
 use Rattle.assess.specs.Levelled.{Levelled}
@@ -114,8 +116,9 @@ module _ (v : ℕ) (levels ls : List ℕ) where
       unfolding answer view side
       answered = refl
 
-      pub is_assessed : not r ≡ false → 1 ≤ length ls → length ls ≤ v → (x : ℕ) (y : Answer) → x ≡ 0 → y ≡ assessed (tier_for (learned_glue levels ls)) (saturated (learned_glue levels ls))
-          → ◌≡◌ {A = Outcome} (record { number = x; answer = y; then = k }) (done (assess ls) k)
-      is_assessed h a b x y i w =
-          ap₂ (λ (x : ℕ) (y : Answer). record { number = x; answer = y; then = k }) i (w ∙ sym answered)
+      pub is_assessed : not r ≡ false → 1 ≤ length ls → length ls ≤ v → (t : Tier) (g : ℕ) → tier_number t ≡ tier_for (learned_glue levels ls) → g ≡ saturated (learned_glue levels ls)
+          → accepted (assessed (tier_number t) g) k ≡ done (assess ls) k
+      is_assessed h a b t g i w =
+          ap₂ (λ (x y : ℕ). accepted (assessed x y) k) i w
+          ∙ ap (λ (y : Answer). accepted y k) (sym answered)
           ∙ sym (still_way (assess ls) only_levels lends k unchanged_step refl refl (sym e ∙ z) (own_none (clause_fine a b (passed q h))))

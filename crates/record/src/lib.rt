@@ -18,10 +18,7 @@ pub fn strike_kind(original: bool, kind: u32) -> u32
 pub fn entry_kind(original: bool, n: usize) -> u32
     ensures { result ≡ entry_kind original n }
 {
-    if original {
-        return 2;
-    }
-    if n == 2 { 2 } else { 3 }
+    if original || n == 2 { 2 } else { 3 }
 }
 
 // A line with n literals, those of `words` from `start` on, behind the used part. Returns the new used length.
@@ -49,7 +46,7 @@ pub fn strike(words: &[u32], offset: usize, rec: &mut [u32], used: usize, kind: 
         × (rec.new ≡ sets rec.old used (line_words (line (strike_kind (original_at words.now offset) kind) (lits_at words.now offset)))) }
 {
     let original = header::tier_of(words[offset + 1]) == 0;
-    let n = buffers::word(words, offset + 2);
+    let n = words[offset + 2] as usize;
     append(rec, used, strike_kind(original, kind), words, offset + 3, n)
 }
 
@@ -58,9 +55,6 @@ pub fn strike_pair(rec: &mut [u32], used: usize, a: u32, b: u32) -> usize
     requires { used + 4 ≤ length rec.old }
     ensures { (result ≡ used + 4) × (rec.new ≡ sets rec.old used (line_words (line 5 (a ∷ b ∷ [])))) }
 {
-    rec[used] = 5;
-    rec[used + 1] = 2;
-    rec[used + 2] = a;
-    rec[used + 3] = b;
+    rec[used..used + 4].copy_from_slice(&[5, 2, a, b]);
     used + 4
 }

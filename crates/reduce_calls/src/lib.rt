@@ -1,13 +1,14 @@
 // Reducing: reduce.rs. Each call judges what it is lent, then looks for its own refusal, then takes its step.
+// The store's buffers are slices beside the state, each a parameter: "a state by value, slices beside it" (docs/01-scope.md, What must change shape).
 #![tactic(auto)]
 
 ghost use Rattle.std.specs.Prelude.{◌≡◌, [], ℕ};
-ghost use Rattle.kinds.specs.Lent.{lent, lent_five, lent_words, host_of, no_host};
+ghost use Rattle.kinds.specs.Lent.{lent, lent_five, lent_words, lent_by, no_host};
 ghost use Rattle.calls.specs.Call.{reduce_mids, reduce_locals};
 ghost use Rattle.calls.specs.Outcome.{done, nothing};
-ghost use Rattle.calls.specs.Answers.{plain_number, changed_number, changed_answer};
+ghost use Rattle.calls.specs.Answers.{number_of, changed_answer, state_after, state_changed};
 
-use kinds::{Changed, ChangedReply, Plain, PlainReply, State};
+use kinds::{Changed, HostSide, Refusal, State};
 
 // `reduce_mids`.
 pub fn reduce_mids(
@@ -18,29 +19,13 @@ pub fn reduce_mids(
     core: &mut [u32],
     mid: &mut [u32],
     local: &mut [u32],
-) -> PlainReply
-    ensures { record { number = plain_number result.answer; answer = nothing; then = lent_five result.state words.new clauses.new irred.new core.new mid.new local.new no_host }
+) -> Result<State, Refusal>
+    ensures { record { number = number_of result; answer = nothing; then = lent_five (state_after s result) words.new clauses.new irred.new core.new mid.new local.new no_host }
         ≡ done reduce_mids (lent_five s words.old clauses.old irred.old core.old mid.old local.old no_host) }
 {
-    let judging = judge::judge_five(s, words, clauses, irred, core, mid, local);
-    if judging != 0 {
-        return PlainReply {
-            answer: Plain::Refused(kinds::refusal_of(judging)),
-            state: s,
-        };
-    }
-    let refusal = reduce_refusals::refuse_reduce_mids(s, words, clauses, irred, core, mid, local);
-    if refusal != 0 {
-        return PlainReply {
-            answer: Plain::Refused(kinds::refusal_of(refusal)),
-            state: s,
-        };
-    }
-    let state = reduce_steps::mids(s, words, clauses, irred, core, mid, local);
-    PlainReply {
-        answer: Plain::Done,
-        state: state,
-    }
+    judge::judge_five(s, words, clauses, irred, core, mid, local)?;
+    reduce_refusals::refuse_reduce_mids(s, words, clauses, irred, core, mid, local)?;
+    Ok(reduce_steps::mids(s, words, clauses, irred, core, mid, local))
 }
 
 // `reduce_locals`: rebuild where a clause was struck.
@@ -53,50 +38,13 @@ pub fn reduce_locals(
     mid: &mut [u32],
     local: &mut [u32],
     rec: &mut [u32],
-    values: &[u8],
-    kinds: &[u8],
-    reasons: &[u32],
-    levels: &[u32],
-    trail: &[u32],
-    assigned: usize,
-    level: usize,
-) -> ChangedReply
-    ensures { record { number = changed_number result.answer; answer = changed_answer result.answer; then = lent result.state words.new clauses.new irred.new core.new mid.new local.new [] [] rec.new (host_of values.now kinds.now reasons.now levels.now trail.now assigned level) }
-        ≡ done reduce_locals (lent s words.old clauses.old irred.old core.old mid.old local.old [] [] rec.old (host_of values.now kinds.now reasons.now levels.now trail.now assigned level)) }
+    host: HostSide<'_>,
+) -> Result<Changed, Refusal>
+    ensures { record { number = number_of result; answer = changed_answer result; then = lent (state_changed s result) words.new clauses.new irred.new core.new mid.new local.new [] [] rec.new (lent_by host.entry) }
+        ≡ done reduce_locals (lent s words.old clauses.old irred.old core.old mid.old local.old [] [] rec.old (lent_by host.entry)) }
 {
-    let judging = judge::judge_five_record_host(
-        s, words, clauses, irred, core, mid, local, rec, values, kinds, reasons, levels, trail,
-        assigned, level,
-    );
-    if judging != 0 {
-        return ChangedReply {
-            answer: Changed::Refused(kinds::refusal_of(judging)),
-            state: s,
-        };
-    }
-    let refusal = reduce_refusals::refuse_reduce_locals(
-        s, words, clauses, irred, core, mid, local, rec, values, kinds, reasons, levels, trail,
-        assigned, level,
-    );
-    if refusal != 0 {
-        return ChangedReply {
-            answer: Changed::Refused(kinds::refusal_of(refusal)),
-            state: s,
-        };
-    }
-    let finished = reduce_steps::locals(
-        s, words, clauses, irred, core, mid, local, rec, values, kinds, reasons, levels, trail,
-        assigned, level,
-    );
-    let state = finished.state;
-    if finished.struck {
-        return ChangedReply {
-            answer: Changed::Rebuild,
-            state: state,
-        };
-    }
-    ChangedReply {
-        answer: Changed::Keep,
-        state: state,
-    }
+    judge::judge_five_record_host(s, words, clauses, irred, core, mid, local, rec, host)?;
+    reduce_refusals::refuse_reduce_locals(s, words, clauses, irred, core, mid, local, rec, host)?;
+    let reduced = reduce_steps::locals(s, words, clauses, irred, core, mid, local, rec, host);
+    Ok(reduced)
 }

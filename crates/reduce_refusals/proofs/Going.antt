@@ -1,102 +1,49 @@
 -- The code's test of a clause that goes, and its tallies. Assumes nothing.
-use mathlib.Core.Path.{◌≡◌, refl, sym, ap, ap₂, ◌∙◌, subst}
-use mathlib.Core.Bool.{Bool, true, false, not, ◌&&◌}
+use mathlib.Core.Path.{◌≡◌, refl, sym, ap, subst}
+use mathlib.Core.Bool.{Bool, true, false}
 use mathlib.Core.List.{List}
 use Prim.Native.Nat.{ℕ, zero, suc, ◌+◌, ◌-◌, ◌*◌, ◌^◌, ◌≤◌, ◌<◌}
 use native.Mathlib.Omega.{arith}
-use lib.Dec.{eqb, ltb}
-use borrow.Author.Tests.{eq-eqb, ne_eqb, le-ltb}
+use borrow.Author.Tests.{le-ltb}
 use Rattle.laws.specs.Fold.{one, count_below, sum_below}
 use Rattle.laws.specs.Lists.{at}
-use Rattle.laws.proofs.Folds.{count_more, and_fails_right}
-use Rattle.laws.proofs.Sums.{sum_more}
-use Rattle.kinds.specs.Header.{deleted_of, tier_of}
-use Rattle.kinds.specs.Clauses.{head_at, len_at, tier_at, deleted_at}
+use native.Mathlib.Nat.{one-mul, zero-mul}
+use Rattle.laws.proofs.Totals.{count_yes, count_no, sum_next}
+use Rattle.laws.proofs.Folds.{count_none, and_fails_right}
+use Rattle.laws.proofs.Sums.{sum_none}
+use Rattle.kinds.specs.Clauses.{len_at}
 use Rattle.calls.specs.Reducing.{sort_key}
-use Rattle.asserting.specs.Reads.{asserting_in}
 use Rattle.reduce_refusals.specs.Counted.{goer, goes, goes_at, line_at, Rising}
-
-module _ (w values kinds reasons : List ℕ) (key o : ℕ) {d : Bool} (de : d ≡ eqb (deleted_of (head_at w o)) 1) where
-  pub stays_deleted : d ≡ true → false ≡ goes w values kinds reasons key o
-  unfolding goes goer
-  stays_deleted t = rw (sym de ∙ t)
-
-  module _ (f : d ≡ false) (t : ℕ) (te : t ≡ tier_of (head_at w o)) where
-    pub stays_other : (t ≡ 3 → ⊥) → false ≡ goes w values kinds reasons key o
-    unfolding goes goer
-    stays_other n = rw (sym de ∙ f, ne_eqb (tier_of (head_at w o)) 3 (λ z. n (te ∙ z)))
-
-    module _ (three : t ≡ 3) {a : Bool} (ae : a ≡ asserting_in w values kinds reasons o) where
-      pub stays_asserting : a ≡ true → false ≡ goes w values kinds reasons key o
-      unfolding goes goer
-      stays_asserting p = rw (sym de ∙ f, eq-eqb (tier_of (head_at w o)) 3 (sym te ∙ three), sym ae ∙ p)
-
-      pub goes_by_key : a ≡ false → (x : ℕ) → x ≡ at w o → ltb (x * 4294967296 + o) key ≡ goes w values kinds reasons key o
-      unfolding goes goer sort_key
-      goes_by_key p x e = rw (sym de ∙ f, eq-eqb (tier_of (head_at w o)) 3 (sym te ∙ three), sym ae ∙ p) (ap (λ (y : ℕ). ltb (y * 4294967296 + o) key) e)
 
 -- ---- one clause more
 
-pub record Tallied (w values kinds reasons : List ℕ) (key : ℕ) (l : List ℕ) (n i count lines : ℕ) : Type 0 where
-  pub few : i ≤ n
+pub record Tallied (w values kinds reasons : List ℕ) (key : ℕ) (l : List ℕ) (i count lines : ℕ) : Type 0 where
   pub counted : count ≡ count_below (goes_at w values kinds reasons key l) i
   pub measured : lines ≡ sum_below (line_at w values kinds reasons key l) i
   pub count_few : count ≤ i
   pub lines_few : lines ≤ i * 4294967300
 
-module _ (w values kinds reasons : List ℕ) (key : ℕ) (l : List ℕ) (n : ℕ) where
-  pub tally_start : Tallied w values kinds reasons key l n 0 0 0
-  unfolding count_below sum_below
-  tally_start = record { few = omega arith; counted = refl; measured = refl; count_few = omega arith; lines_few = omega arith }
+pub tally_start : (w values kinds reasons : List ℕ) (key : ℕ) (l : List ℕ) → Tallied w values kinds reasons key l 0 0 0
+tally_start w values kinds reasons key l = record { counted = sym (count_none _); measured = sym (sum_none _); count_few = omega arith; lines_few = omega arith }
 
-  module _ (i count lines : ℕ) (I : Tallied w values kinds reasons key l n i count lines) (lt : i < n) (o : ℕ) (e : o ≡ at l i) {b : Bool} (t : b ≡ goes w values kinds reasons key o) where
-    test : goes w values kinds reasons key (at l i) ≡ b
-    test = ap (goes w values kinds reasons key) (sym e) ∙ sym t
+module _ {w values kinds reasons : List ℕ} {key : ℕ} {l : List ℕ} {i count lines : ℕ} (I : Tallied w values kinds reasons key l i count lines) where
+  pub tally_goes : goes w values kinds reasons key (at l i) ≡ true → len_at w (at l i) < 2 ^ 32 → Tallied w values kinds reasons key l (i + 1) (count + 1) (lines + (len_at w (at l i) + 2))
+  unfolding goes_at line_at
+  tally_goes t small = record {
+    counted = count_yes _ i I.counted refl t;
+    measured = sum_next _ i I.measured (rw t (sym (one-mul (len_at w (at l i) + 2)))) refl;
+    count_few = omega arith;
+    lines_few = omega arith;
+  }
 
-    pub tally_goes : b ≡ true → (len : ℕ) → len ≡ at w (o + 2) → len < 2 ^ 32 → Tallied w values kinds reasons key l n (i + 1) (count + 1) (lines + (len + 2))
-    unfolding goes_at line_at
-    tally_goes y len q small =
-        let a = ap one (test ∙ y) in
-        let c = I.count_few in
-        let m = I.lines_few in
-        record {
-          few = omega arith;
-          counted = ap₂ (λ (x z : ℕ). x + z) I.counted (sym a) ∙ sym (count_more (goes_at w values kinds reasons key l) i);
-          measured = ap₂ (λ (x z : ℕ). x + z) I.measured (line ∙ sym (ap (λ (x : Bool). one x * (len_at w (at l i) + 2)) (test ∙ y))) ∙ sym (sum_more (line_at w values kinds reasons key l) i);
-          count_few = omega arith;
-          lines_few = omega arith;
-        }
-      where
-        plain : (x : ℕ) → x ≡ 1 * x
-        plain x = omega arith
-
-        line : len + 2 ≡ 1 * (len_at w (at l i) + 2)
-        line = ap (λ (x : ℕ). x + 2) (q ∙ ap (λ (x : ℕ). at w (x + 2)) e) ∙ plain (len_at w (at l i) + 2)
-
-    pub tally_stays : b ≡ false → Tallied w values kinds reasons key l n (i + 1) count lines
-    unfolding goes_at line_at
-    tally_stays y =
-        let c = I.count_few in
-        let m = I.lines_few in
-        record {
-          few = omega arith;
-          counted = I.counted ∙ none (count_below (goes_at w values kinds reasons key l) i) (one (goes w values kinds reasons key (at l i))) (ap one (test ∙ y)) ∙ sym (count_more (goes_at w values kinds reasons key l) i);
-          measured = I.measured ∙ none (sum_below (line_at w values kinds reasons key l) i) (one (goes w values kinds reasons key (at l i)) * (len_at w (at l i) + 2)) (ap (λ (x : Bool). one x * (len_at w (at l i) + 2)) (test ∙ y) ∙ zeros (len_at w (at l i) + 2)) ∙ sym (sum_more (line_at w values kinds reasons key l) i);
-          count_few = omega arith;
-          lines_few = omega arith;
-        }
-      where
-        none : (x y : ℕ) → y ≡ 0 → x ≡ x + y
-        none x y q = omega arith
-
-        zeros : (x : ℕ) → 0 * x ≡ 0
-        zeros x = omega arith
-
-  pub tally_end : (i count lines : ℕ) → Tallied w values kinds reasons key l n i count lines → n ≤ i → (count ≡ count_below (goes_at w values kinds reasons key l) n) × (lines ≡ sum_below (line_at w values kinds reasons key l) n)
-  tally_end i count lines I h =
-      let f = I.few in
-      let e : i ≡ n = omega arith in
-      (I.counted ∙ ap (count_below (goes_at w values kinds reasons key l)) e, I.measured ∙ ap (sum_below (line_at w values kinds reasons key l)) e)
+  pub tally_stays : goes w values kinds reasons key (at l i) ≡ false → Tallied w values kinds reasons key l (i + 1) count lines
+  unfolding goes_at line_at
+  tally_stays t = record {
+    counted = count_no _ i I.counted refl t;
+    measured = sum_next _ i {x = 0} I.measured (rw t (sym (zero-mul (len_at w (at l i) + 2)))) (omega arith);
+    count_few = omega arith;
+    lines_few = omega arith;
+  }
 
 -- ---- halving: fewer than half go below the lower bound, more than half below the higher one
 
@@ -111,7 +58,7 @@ pub record Between (w values kinds reasons l : List ℕ) (n half low high : ℕ)
   pub below : count_below (goes_at w values kinds reasons low l) n ≤ half
   pub above : half < count_below (goes_at w values kinds reasons high l) n
 
-module _ (w values kinds reasons l : List ℕ) (n half : ℕ) where
+module _ {w values kinds reasons l : List ℕ} {n half : ℕ} where
   pub bounds_start : half < count_below (goes_at w values kinds reasons 9223372036854775808 l) n → Between w values kinds reasons l n half 0 9223372036854775808
   unfolding goes_at goes
   bounds_start h = record {
@@ -121,10 +68,8 @@ module _ (w values kinds reasons l : List ℕ) (n half : ℕ) where
     above = h;
   }
 
-  pub bounds_end : (low high : ℕ) → Between w values kinds reasons l n half low high → high - low ≤ 1 → Rising w values kinds reasons l n → count_below (goes_at w values kinds reasons low l) n ≡ half
-  bounds_end low high I h r =
-      let o = I.order in
-      let b = I.below in
+  pub bounds_end : {low high : ℕ} → Between w values kinds reasons l n half low high → high - low ≤ 1 → Rising w values kinds reasons l n → count_below (goes_at w values kinds reasons low l) n ≡ half
+  bounds_end {low} {high} I h r =
       let a = I.above in
       let e : high ≡ low + 1 = omega arith in
       let s = r low in

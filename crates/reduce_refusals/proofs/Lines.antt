@@ -1,17 +1,16 @@
 -- The lines of the clauses that go: the first m of a sorted list that may go. Assumes nothing.
 use mathlib.Core.Path.{◌≡◌, refl, sym, ap, ap₂, ◌∙◌, subst}
-use mathlib.Core.Bool.{Bool, true, false, cond, not, ◌&&◌, ◌||◌, true≢false}
-use mathlib.Core.Logic.{⊎_elim, ◌⊎◌, inl, inr}
+use mathlib.Core.Bool.{Bool, true, false, cond, not, ◌&&◌, ◌||◌}
+use mathlib.Core.Logic.{⊎_elim}
 use mathlib.Core.List.{List, [], ◌∷◌}
 use Prim.Native.Nat.{ℕ, zero, suc, ◌+◌, ◌-◌, ◌*◌, ◌≤◌, ◌<◌}
-use native.Mathlib.Decide.{ℕ_discrete}
 use native.Mathlib.Omega.{arith}
 use lib.Dec.{eqb, ltb, eqb-suc-zero}
 use borrow.Author.Tests.{ltb-true, lt-ltb, eqb-true}
 use Rattle.laws.specs.Fold.{one}
-use Rattle.laws.specs.Counts.{count, Above, Sorted}
+use Rattle.laws.specs.Counts.{Above, Sorted}
 use Rattle.laws.proofs.Folds.{and_right, or_right}
-use Rattle.laws.proofs.Members.{In, Distinct, sum_list, sum_each, sum_part}
+use Rattle.laws.proofs.Members.{In, sum_list, sum_part}
 use Rattle.laws.proofs.Entries.{elem_here, elem_later, elem_cases, elem_counted}
 use Rattle.laws.proofs.Subsets.{sum_nothing}
 

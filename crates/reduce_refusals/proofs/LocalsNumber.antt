@@ -1,14 +1,14 @@
 -- Refusal 11 of reducing locals, by the tallies. Assumes nothing.
-use mathlib.Core.Path.{◌≡◌, refl, sym, ap, ap₂, ◌∙◌, subst}
+use mathlib.Core.Path.{◌≡◌, refl, sym, ap, ◌∙◌, subst}
 use mathlib.Core.Bool.{Bool, true, false, cond, ◌&&◌}
-use mathlib.Core.List.{List, [], ◌∷◌}
+use mathlib.Core.List.{List, []}
 use Prim.Native.Nat.{ℕ, zero, suc, ◌+◌, ◌-◌, ◌*◌, ◌/◌, ◌^◌, ◌≤◌, ◌<◌}
 use native.Mathlib.Omega.{arith}
 use lib.ListN.{length, take, set, length-set}
 use lib.Seq.{length-take-le, get_or-take, get_or-set_same, get_or-set_other}
-use lib.Dec.{eqb, leb, ltb}
+use lib.Dec.{ltb}
 use borrow.Author.Tests.{le-leb, lt-ltb}
-use Rattle.laws.specs.Fold.{fold_list, one, all_below, count_below, sum_below}
+use Rattle.laws.specs.Fold.{fold_list, one, count_below, sum_below}
 use Rattle.laws.specs.Lists.{at, list_at, take_each, sort_by}
 use Rattle.laws.proofs.Folds.{and_both, all_of}
 use Rattle.laws.proofs.Sums.{count_same, sum_same}
@@ -17,20 +17,18 @@ use Rattle.laws.proofs.Tests.{and_true}
 use Rattle.laws.proofs.SortLengths.{length_sort}
 use Rattle.laws.proofs.Members.{In, sum_list, sum_each}
 use Rattle.laws.proofs.Entries.{elem_index}
-use Rattle.kinds.specs.Clauses.{len_at, first_at, end_at, tier_at, deleted_at, var_of}
-use Rattle.kinds.specs.Floats.{limit_bits}
+use Rattle.kinds.specs.Clauses.{len_at}
 use Rattle.kinds.specs.Lent.{Lent, Host, lent}
-use Rattle.kinds.specs.Held.{Held, Side}
 use Rattle.kinds.specs.Layout.{view, side, fit, fit_tier}
 use Rattle.kinds.specs.declared.State.{State}
 use Rattle.calls.specs.Call.{reduce_locals, parts, five_lists_record_host}
-use Rattle.calls.specs.Reducing.{kept_first, cleaned_tier, tier_emptied, sort_key, sorted_locals, Round, local_done, to_strike, locals_round, locals_reduced}
+use Rattle.calls.specs.Reducing.{kept_first, cleaned_tier, tier_emptied, sort_key, sorted_locals, local_done, to_strike, locals_round, locals_reduced}
 use Rattle.calls.specs.Refusing.{own, lowest}
 use Rattle.calls.specs.Outcome.{judged, refused_for, has_room, step, own_number}
 use Rattle.calls.proofs.Judged.{HostSized, sizes_judged, store_judged, words_sized_lem, clauses_sized, tier_sized_lem, record_sized_lem, host_sized_lem, levels_long, record_fits}
 use Rattle.calls.proofs.Readings.{words_pass_lem, tiers_pass}
 use Rattle.calls.proofs.Unchanged.{tiers_within}
-use Rattle.passing.proofs.Store.{Store, Live, chain_in}
+use Rattle.passing.proofs.Store.{Store, chain_in}
 use Rattle.passing.proofs.Good.{Quiet}
 use Rattle.passing.proofs.Tests.{quiet_read}
 use Rattle.reduce_steps.proofs.Fours.{used_part}

@@ -1,30 +1,27 @@
 -- Room for the lines of the clauses that go: what reducing locals makes of the lists and the record. Assumes nothing.
 use mathlib.Core.Path.{◌≡◌, refl, sym, ap, ap₂, ◌∙◌, subst}
-use mathlib.Core.Bool.{Bool, true, false, cond, not, ◌&&◌, ◌||◌, true≢false}
-use mathlib.Core.Logic.{⊎_elim, ◌⊎◌, inl, inr}
-use mathlib.Core.List.{List, [], ◌∷◌, ◌++◌}
-use Prim.Native.Nat.{ℕ, zero, suc, ◌+◌, ◌-◌, ◌*◌, ◌/◌, ◌^◌, ◌≤◌, ◌<◌}
-use native.Mathlib.Decide.{ℕ_discrete}
+use mathlib.Core.Bool.{Bool, true, false, cond, not, ◌&&◌, ◌||◌}
+use mathlib.Core.Logic.{⊎_elim}
+use mathlib.Core.List.{List, [], ◌∷◌}
+use Prim.Native.Nat.{ℕ, ◌+◌, ◌-◌, ◌≤◌}
 use native.Mathlib.Omega.{arith}
-use lib.ListN.{length, take, set, length-append}
-use lib.Dec.{eqb, ltb}
-use borrow.Author.Tests.{eq-eqb, ne_eqb, eqb-true, lt-ltb, le-ltb, ltb-true, ltb-false, not-true, not-false}
-use Rattle.laws.specs.Fold.{fold_list, one}
-use Rattle.laws.specs.Lists.{at, list_at, elem, snoc, push}
-use Rattle.laws.proofs.Folds.{and_left, and_right}
-use Rattle.laws.proofs.Members.{In, Distinct, sum_list, sum_each}
+use lib.ListN.{length, length-append}
+use lib.Dec.{eqb}
+use borrow.Author.Tests.{eq-eqb}
+use Rattle.laws.specs.Fold.{fold_list}
+use Rattle.laws.specs.Lists.{at, list_at}
+use Rattle.laws.proofs.Members.{In, Distinct}
 use Rattle.laws.proofs.Entries.{elem_here, elem_later}
-use Rattle.laws.proofs.Subsets.{within, sum_within}
 use Rattle.laws.proofs.Pushes.{at_other, pushed_here, pushed_other, length_push}
 use Rattle.kinds.specs.Header.{with_deleted}
-use Rattle.kinds.specs.Clauses.{head_at, len_at, first_at, end_at, tier_at, deleted_at, var_of, change_head}
-use Rattle.kinds.specs.Held.{Held, Side, list_in, is_true, asserting}
+use Rattle.kinds.specs.Clauses.{head_at, len_at, first_at, end_at, tier_at, var_of}
+use Rattle.kinds.specs.Held.{Side, list_in, is_true, asserting}
 use Rattle.calls.specs.Adding.{removed, strike_noted, struck, deleted}
 use Rattle.calls.specs.Reducing.{sort_key, Round, spared, local_done}
 use Rattle.passing.proofs.Store.{Store, Live, Same, chain_apart}
 use Rattle.asserting.specs.Reads.{asserting_in}
 use Rattle.reduce_steps.proofs.Purging.{strike_line, line_length}
-use Rattle.reduce_refusals.specs.Counted.{goer, goes}
+use Rattle.reduce_refusals.specs.Counted.{goer}
 use Rattle.reduce_refusals.proofs.Lines.{lines, lines_stay, lines_go}
 
 abbrev pub line_size : List ℕ → ℕ → ℕ
@@ -82,7 +79,6 @@ module _ {v : ℕ} {w : List ℕ} {used : ℕ} {l cs : List ℕ} {gb : ℕ} {ts 
   made_stay r o os f e b m =
       let sp : Round = record { left = r.left; held = list_in 3 o r.held } in
       let st : Round = record { left = r.left - 1; held = deleted o r.held } in
-      let l3 = m.local in
       let p = ap length (pushed_here r.held.tiers 3 o (omega arith)) in
       let a = length-append (list_at r.held.tiers 3) (o ∷ []) in
       subst (λ (x : Round). LocalsMade r (fold_list local_done x os) (o ∷ os) (gone r.left (o ∷ os))) (sym (ap (λ (c : Bool). cond c sp st) e))
@@ -103,8 +99,6 @@ module _ {v : ℕ} {w : List ℕ} {used : ℕ} {l cs : List ℕ} {gb : ℕ} {ts 
   made_strike r o os e b n m =
       let sp : Round = record { left = r.left; held = list_in 3 o r.held } in
       let st : Round = record { left = r.left - 1; held = deleted o r.held } in
-      let l3 = m.local in
-      let a = m.record_long in
       let c = length-append r.held.rec (strike_line r.held.words o) in
       let d = line_length r.held.words o in
       let f = lines_go g (line_size w) (sort_key w) r.left o os b in

@@ -1,23 +1,21 @@
 -- The clauses that go, over the clause list and over the sorted locals. Assumes nothing.
-use mathlib.Core.Path.{◌≡◌, refl, sym, ap, ap₂, ◌∙◌, subst}
+use mathlib.Core.Path.{◌≡◌, refl, sym, ap, ◌∙◌, subst}
 use mathlib.Core.Bool.{Bool, true, false, cond, not, ◌&&◌, true≢false}
 use mathlib.Core.List.{List, [], ◌∷◌}
-use Prim.Native.Nat.{ℕ, zero, suc, ◌+◌, ◌-◌, ◌*◌, ◌/◌, ◌^◌, ◌≤◌, ◌<◌}
+use Prim.Native.Nat.{ℕ, ◌+◌, ◌*◌, ◌^◌, ◌≤◌, ◌<◌}
 use native.Mathlib.Decide.{ℕ_discrete}
 use native.Mathlib.Omega.{arith}
 use lib.ListN.{length}
 use lib.Dec.{eqb, ltb}
-use borrow.Author.Tests.{ne_eqb, eqb-true, lt-ltb, le-ltb, ltb-true, ltb-false, not-true}
+use borrow.Author.Tests.{ne_eqb, lt-ltb, le-ltb, ltb-true, ltb-false}
 use Rattle.laws.specs.Fold.{fold_list, one, count_below, sum_below}
 use Rattle.laws.specs.Lists.{at, list_at, elem, sort_by}
-use Rattle.laws.proofs.Folds.{and_left, and_right}
 use Rattle.laws.proofs.Sums.{count_sum}
 use Rattle.laws.proofs.Members.{In, Distinct, sum_list, sum_each, sum_places}
 use Rattle.laws.proofs.Entries.{elem_here, elem_later}
 use Rattle.laws.proofs.Subsets.{within, sum_within}
-use Rattle.laws.proofs.SortLengths.{length_sort}
 use Rattle.laws.proofs.Distinct.{sort_in, in_sort, distinct_sort}
-use Rattle.kinds.specs.Clauses.{len_at, end_at, tier_at, deleted_at}
+use Rattle.kinds.specs.Clauses.{tier_at, deleted_at}
 use Rattle.kinds.specs.Held.{Side}
 use Rattle.calls.specs.Reducing.{kept_first, sort_key}
 use Rattle.passing.proofs.Store.{Store, Live, in_tier_lem, chain_distinct}

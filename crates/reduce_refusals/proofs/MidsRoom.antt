@@ -1,38 +1,36 @@
 -- Room for the inactive mids: what reducing mids makes of the lists. Assumes nothing.
 use mathlib.Core.Path.{◌≡◌, refl, sym, ap, ap₂, ◌∙◌, subst}
 use mathlib.Core.Bool.{Bool, true, false, cond, not, ◌&&◌, ◌||◌, true≢false}
-use mathlib.Core.List.{List, [], ◌∷◌, ◌++◌}
+use mathlib.Core.List.{List, [], ◌∷◌}
 use Prim.Native.Nat.{ℕ, zero, suc, ◌+◌, ◌^◌, ◌≤◌, ◌<◌}
 use native.Mathlib.Decide.{ℕ_discrete}
 use native.Mathlib.Omega.{arith}
 use lib.ListN.{length, take, set, length-append, length-set}
 use lib.Seq.{length-take-le, get_or-take, get_or-set_same, get_or-set_other}
-use lib.Dec.{eqb, leb}
-use borrow.Author.Tests.{eq-eqb, ne_eqb, eqb-true, eqb-false, le-leb, lt-leb}
-use Rattle.laws.specs.Fold.{fold_list, one, all_below, count_below, sum_below}
-use Rattle.laws.specs.Lists.{at, list_at, elem, snoc, push, take_each}
-use Rattle.laws.proofs.Folds.{and_both, all_of, all_fails, count_more}
+use lib.Dec.{eqb}
+use borrow.Author.Tests.{eq-eqb, ne_eqb, le-leb}
+use Rattle.laws.specs.Fold.{fold_list, one, count_below}
+use Rattle.laws.specs.Lists.{at, list_at, elem, snoc, take_each}
+use Rattle.laws.proofs.Folds.{and_both, all_of}
 use Rattle.laws.proofs.Sums.{count_sum, count_same}
 use Rattle.laws.proofs.Members.{In, Distinct, sum_list, sum_each, sum_places}
-use Rattle.laws.proofs.Entries.{elem_none, elem_here, elem_later, elem_index}
+use Rattle.laws.proofs.Entries.{elem_here, elem_later, elem_index}
 use Rattle.laws.proofs.Subsets.{within, sum_within}
 use Rattle.laws.proofs.Pushes.{at_other, pushed_here, pushed_other, length_push}
-use Rattle.laws.proofs.Walks.{walk_next}
-use Rattle.kinds.specs.Header.{deleted_of, tier_of, active_of, with_tier, with_active}
+use Rattle.kinds.specs.Header.{active_of, with_tier, with_active}
 use Rattle.kinds.specs.Clauses.{head_at, tier_at, deleted_at, active_at, change_head}
 use Rattle.kinds.specs.Lent.{Lent, lent_five, no_host}
 use Rattle.kinds.specs.Held.{Held}
-use Rattle.kinds.specs.Layout.{view, fit, fit_tier, lent_then}
+use Rattle.kinds.specs.Layout.{view, fit, fit_tier}
 use Rattle.kinds.specs.declared.State.{State}
 use Rattle.calls.specs.Call.{reduce_mids, parts, five_lists}
 use Rattle.calls.specs.Adding.{moved_to, tier_set}
 use Rattle.calls.specs.Reducing.{stale, kept_first, cleaned_tier, tier_emptied, mid_kept, mid_done, mids_reduced}
 use Rattle.calls.specs.Refusing.{own, lowest}
 use Rattle.calls.specs.Outcome.{judged, refused_for, has_room, step, own_number}
-use Rattle.calls.proofs.Judged.{sizes_judged, words_sized_lem, clauses_sized, tier_sized_lem, tier_fits}
+use Rattle.calls.proofs.Judged.{sizes_judged, clauses_sized, tier_sized_lem, tier_fits}
 use Rattle.calls.proofs.Unchanged.{tiers_within}
-use Rattle.passing.proofs.Store.{Store, Live, chain_in, chain_distinct}
-use Rattle.dedup.specs.Marks.{Kept}
+use Rattle.passing.proofs.Store.{Store, chain_in, chain_distinct}
 use Rattle.reduce_steps.proofs.Fours.{used_part}
 use Rattle.reduce_steps.proofs.Cleaned.{kept_ready, kept_distinct, kept_covers}
 use Rattle.reduce_steps.proofs.Passing.{store_lent}
@@ -121,38 +119,6 @@ mids_made (o ∷ os) h f (n, d) t = go (active_at h.words o) refl (mids_made os 
               mid = omega arith;
               local = omega arith;
             }
-
--- ---- the code's test and count
-
-pub stays_deleted : (x : ℕ) {b : Bool} → b ≡ eqb (deleted_of x) 1 → b ≡ true → 0 ≡ one (inactive_mid x)
-unfolding inactive_mid
-stays_deleted x e t = rw (sym e ∙ t)
-
-pub stays_other : (x : ℕ) {b : Bool} → b ≡ eqb (deleted_of x) 1 → b ≡ false → (t : ℕ) → t ≡ tier_of x → (t ≡ 2 → ⊥) → 0 ≡ one (inactive_mid x)
-unfolding inactive_mid
-stays_other x e f t q n = rw (sym e ∙ f, ne_eqb (tier_of x) 2 (λ z. n (q ∙ z)))
-
-pub stays_active : (x : ℕ) {b : Bool} → b ≡ eqb (deleted_of x) 1 → b ≡ false → (t : ℕ) → t ≡ tier_of x → t ≡ 2 → {a : Bool} → a ≡ eqb (active_of x) 1 → a ≡ true → 0 ≡ one (inactive_mid x)
-unfolding inactive_mid
-stays_active x e f t q n p r = rw (sym e ∙ f, eq-eqb (tier_of x) 2 (sym q ∙ n), sym p ∙ r)
-
-pub goes_local : (x : ℕ) {b : Bool} → b ≡ eqb (deleted_of x) 1 → b ≡ false → (t : ℕ) → t ≡ tier_of x → t ≡ 2 → {a : Bool} → a ≡ eqb (active_of x) 1 → a ≡ false → 1 ≡ one (inactive_mid x)
-unfolding inactive_mid
-goes_local x e f t q n p r = rw (sym e ∙ f, eq-eqb (tier_of x) 2 (sym q ∙ n), sym p ∙ r)
-
-pub one_more : (w l : List ℕ) (i count place r : ℕ) → count ≡ count_below (inactive_at w l) i → place ≡ at l i → r ≡ one (inactive_mid (at w (place + 1))) → count + r ≡ count_below (inactive_at w l) (i + 1)
-unfolding inactive_at
-one_more w l i count place r e p q = ap₂ (λ (x y : ℕ). x + y) e (q ∙ ap (λ (x : ℕ). one (inactive_mid (at w (x + 1)))) p) ∙ sym (count_more (inactive_at w l) i)
-
-pub count_end : (f : ℕ → Bool) (i n : ℕ) {x : ℕ} → x ≡ count_below f i → i ≤ n → n ≤ i → x ≡ count_below f n
-count_end f i n e a b = let z : i ≡ n = omega arith in e ∙ ap (count_below f) z
-
-pub at_most_one : (x r : ℕ) → r ≡ one (inactive_mid x) → r ≤ 1
-at_most_one x r e = subst (λ (y : ℕ). y ≤ 1) (sym e) (small (inactive_mid x))
-  where
-    small : (b : Bool) → one b ≤ 1
-    small true = omega arith
-    small false = omega arith
 
 -- ---- the inactive mids, over the clause list
 

@@ -25,10 +25,10 @@ module _ {v : ℕ} {w : List ℕ} {used : ℕ} {l cs : List ℕ} {g : ℕ} {ts :
   -- ---- a live clause
   module _ (o : ℕ) (a : Live w l o) where
     pub live_ends : end_at w o ≤ length w
-    live_ends = let b = (chain_in 0 used w l S.chain o a.0).1 in let r = S.room in omega arith
+    live_ends = let b = (chain_in 0 used w l S.chain o a.0).1 in omega arith
 
     pub live_size_lem : g + size_at w o ≤ used
-    live_size_lem = let b = S.garbage in let c = sum_part (live_words w) o l a.0 in let d = words_live w o a.1 in omega arith
+    live_size_lem = let c = sum_part (live_words w) o l a.0 in let d = words_live w o a.1 in omega arith
 
     pub live_counted : (t : ℕ) → tier_at w o ≡ t → 0 < at cs t
     live_counted t e =
@@ -38,7 +38,7 @@ module _ {v : ℕ} {w : List ℕ} {used : ℕ} {l cs : List ℕ} {g : ℕ} {ts :
         subst (λ (z : ℕ). 0 < at cs z) e (omega arith)
 
     pub live_first : first_at w o < 2 * v
-    live_first = let c = S.clause o a.0 a.1 in let t = c.three in subst (λ (x : ℕ). at w x < 2 * v) (plain (o + 3)) (c.lits.below 0 (omega arith))
+    live_first = let c = S.clause o a.0 a.1 in subst (λ (x : ℕ). at w x < 2 * v) (plain (o + 3)) (c.lits.below 0 (omega arith))
       where
         plain : (x : ℕ) → x + 0 ≡ x
         plain x = omega arith
@@ -79,8 +79,6 @@ module _ {v : ℕ} {w : List ℕ} {used : ℕ} {l cs : List ℕ} {g : ℕ} {ts :
         let m : head_at w e / 2 ^ 3 % 2 ^ 1 ≡ 0 = (S.clause e a.0 a.1).mark in
         record { within = omega arith; plain = λ z. omega arith }
     entry_of e (inr s) =
-        let q = s.within in
-        let r = S.room in
         let d : head_at w e / 2 ^ 2 % 2 ^ 1 ≡ 1 = eqb-true (deleted_of (head_at w e)) 1 s.deleted in
         record { within = omega arith; plain = λ z. absurd (omega arith) }
 

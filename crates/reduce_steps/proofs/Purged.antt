@@ -27,7 +27,7 @@ use Rattle.calls.proofs.Judged.{HostSized, sizes_judged, words_sized_lem, clause
 use Rattle.calls.proofs.Unchanged.{tiers_within}
 use Rattle.passing.proofs.Store.{Store}
 use Rattle.passing.proofs.Reduce.{Ready}
-use Rattle.sort.specs.Heaps.{Refs}
+use Rattle.sort.specs.Refs.{Refs}
 use Rattle.dedup.specs.Marks.{Entries, Kept}
 use Rattle.reduce_steps.proofs.Fours.{used_part, local_fills, local_lengths, fill_kept, fill_grown}
 use Rattle.reduce_steps.proofs.Cleaned.{kept_ready, kept_distinct, entries, live_ends}
@@ -126,9 +126,9 @@ module _ (s : State) (words clauses irred core mid local rec : List ℕ) (host :
         }
 
     -- stale and repeated entries are dropped: local₁ holds the n that stay, words₁ are the words
-    module _ (local₁ words₁ : List ℕ) (n : ℕ) (e : Kept words 3 (at s.tiers 3) local local₁ n) (same : words₁ ≡ words) (long : length local₁ ≡ length local) (used : at s.tiers 3 ≤ length local) where
+    module _ {local₁ words₁ : List ℕ} {n : ℕ} (e : Kept words 3 (at s.tiers 3) local local₁ n) (same : words₁ ≡ words) (long : length local₁ ≡ length local) (used : at s.tiers 3 ≤ length local) where
       fits : n ≤ length local₁
-      fits = let a = e.few in omega arith
+      fits = omega arith
 
       cleaned : take n local₁ ≡ cleaned_tier 3 (view k)
       unfolding view cleaned_tier
@@ -143,7 +143,7 @@ module _ (s : State) (words clauses irred core mid local rec : List ℕ) (host :
       references i h = let a = ready (get_or (take n local₁) i 0) (elem_index (take n local₁) i h) in let b = live_ends store (get_or (take n local₁) i 0) a.0 in let z = ap length same in omega arith
 
       -- sorted
-      module _ (local₂ : List ℕ) (f : local₂ ≡ sort_by (sort_key words₁) (take n local₁) ++ drop n local₁) where
+      module _ {local₂ : List ℕ} (f : local₂ ≡ sort_by (sort_key words₁) (take n local₁) ++ drop n local₁) where
         sorted_length : length (sort_by (sort_key words₁) (take n local₁)) ≡ n
         sorted_length = length_sort (sort_key words₁) (take n local₁) ∙ length-take-le n local₁ fits
 
@@ -180,40 +180,35 @@ module _ (s : State) (words clauses irred core mid local rec : List ℕ) (host :
         }
 
   -- ---- the writes, put together
-  module _ (r : LocalsReady s words clauses irred core mid local rec host) (n : ℕ) (local₂ words₁ local₃ rec₁ counts₁ : List ℕ) (i kept recorded garbage left : ℕ)
+  module _ (r : LocalsReady s words clauses irred core mid local rec host) {n : ℕ} {local₂ words₁ local₃ rec₁ counts₁ : List ℕ} {i kept recorded garbage left : ℕ}
       (few : n ≤ at s.tiers 3) (long : length local₂ ≡ length local) (behind : drop (at s.tiers 3) local₂ ≡ drop (at s.tiers 3) local)
       (I : Purge (view k) n local₂ rec words₁ local₃ rec₁ counts₁ i kept recorded garbage left) (end : n ≤ i)
-      (local₄ : List ℕ) (cleared : local₄ ≡ sets local₃ kept (replicate (at s.tiers 3 - kept) 0)) where
+      {local₄ : List ℕ} (cleared : local₄ ≡ sets local₃ kept (replicate (at s.tiers 3 - kept) 0)) where
     abbrev l : List ℕ
     l = take kept local₃
 
     kept_few : kept ≤ at s.tiers 3
-    kept_few = let a = I.kept_le in let b = I.i_le in omega arith
+    kept_few = omega arith
 
     l_length : length l ≡ kept
-    l_length = let a = I.local_len in let b = kept_few in let c = r.local_used in length-take-le kept local₃ (omega arith)
+    l_length = let b = kept_few in length-take-le kept local₃ (omega arith)
 
     local_filled : local₄ ≡ fill local (at s.tiers 3) l
     local_filled =
-        let a = I.local_len in
-        let b = r.local_used in
-        let c = I.i_le in
         cleared ∙ fill_kept local local₃ (at s.tiers 3) kept kept_few (omega arith) (drop_more i (at s.tiers 3) local₃ local₂ (omega arith) I.ahead ∙ behind)
 
     rec_long : recorded ≡ length (take recorded rec₁)
-    rec_long = let a = I.rec_len in let b = I.rec_le in sym (length-take-le recorded rec₁ (omega arith))
+    rec_long = sym (length-take-le recorded rec₁ (omega arith))
 
     rec_filled : rec₁ ≡ fill rec s.recorded (take recorded rec₁)
     unfolding view
     rec_filled =
-        let a = I.rec_len in
-        let b = I.rec_le in
         let c : length (take s.recorded rec) ≤ recorded = I.rec_from in
         let d = length-take-le s.recorded rec r.rec_used in
         fill_grown rec rec₁ s.recorded recorded (omega arith) (omega arith) I.behind
 
     ended : round_now (view k) left words₁ counts₁ garbage (take recorded rec₁) l ≡ locals_round (view k)
-    ended = purge_end (view k) n local₂ rec words₁ local₃ rec₁ counts₁ i kept recorded garbage left (let b = r.local_used in omega arith) I end
+    ended = purge_end (omega arith) I end
 
     pub locals_laid : lent (state_of s.vars s.words s.clauses (set s.tiers 3 kept) recorded counts₁ garbage s.binary s.activity) words₁ clauses irred core mid local₄ [] [] rec₁ host
         ≡ lay five_lists_record_host k (locals_reduced (view k))
@@ -224,6 +219,6 @@ module _ (s : State) (words clauses irred core mid local rec : List ℕ) (host :
         rec_long rec_filled
         ∙ ap (λ (x : Round). lay five_lists_record_host k x.held) ended
 
-    pub locals_flag : (half : ℕ) → to_strike (view k) ≡ half → not (eqb left half) ≡ locals_struck (view k)
+    pub locals_flag : {m : ℕ} → to_strike (view k) ≡ m → not (eqb left m) ≡ locals_struck (view k)
     unfolding locals_struck
-    locals_flag half e = ap₂ (λ (x : ℕ) (y : ℕ). not (eqb x y)) (ap (λ (x : Round). x.left) ended) (sym e)
+    locals_flag e = ap₂ (λ (x : ℕ) (y : ℕ). not (eqb x y)) (ap (λ (x : Round). x.left) ended) (sym e)

@@ -113,9 +113,9 @@ pub record Begun (h : Held) (n : ℕ) (local₁ rec₀ words₀ counts₀ : List
   pub reasons_held : reasons ≡ h.host.reasons
 
 -- the code's test, on what is held meanwhile
-pub test_held : (h : Held) (n : ℕ) (local₁ rec₀ words₀ counts₀ : List ℕ) (recorded₀ garbage₀ half : ℕ) (values kinds reasons : List ℕ) → Begun h n local₁ rec₀ words₀ counts₀ recorded₀ garbage₀ half values kinds reasons
+pub test_held : {h : Held} {n : ℕ} {local₁ rec₀ words₀ counts₀ : List ℕ} {recorded₀ garbage₀ half : ℕ} {values kinds reasons : List ℕ} → Begun h n local₁ rec₀ words₀ counts₀ recorded₀ garbage₀ half values kinds reasons
     → (words counts : List ℕ) (garbage : ℕ) (rec l : List ℕ) (left o : ℕ) {b r : Bool} → r ≡ eqb left 0 || asserting_in words values kinds reasons o → r ≡ b → eqb left 0 || asserting (locals_now h words counts garbage rec l) o ≡ b
-test_held h n local₁ rec₀ words₀ counts₀ recorded₀ garbage₀ half values kinds reasons B words counts garbage rec l left o e q =
+test_held {h} B words counts garbage rec l left o e q =
     ap (λ (x : Bool). eqb left 0 || x) (sym (asserting_held (locals_now h words counts garbage rec l) o) ∙ (λ i. asserting_in words (sym B.values_held i) (sym B.kinds_held i) (sym B.reasons_held i) o))
     ∙ sym e ∙ q
 
@@ -151,7 +151,7 @@ purge_start h n local₁ rec S e r d recorded b q z = record {
       held = held_of h.vars h.words h.used h.clauses (sym emptied i) h.rows (sym q i) h.counts h.garbage h.binary h.activity h.host;
     }
 
-module _ (h : Held) (n : ℕ) (local₁ rec₀ words local rec counts : List ℕ) (i kept recorded garbage left : ℕ) (fit : n ≤ length local₁) (I : Purge h n local₁ rec₀ words local rec counts i kept recorded garbage left) (lt : i < n) where
+module _ {h : Held} {n : ℕ} {local₁ rec₀ words local rec counts : List ℕ} {i kept recorded garbage left : ℕ} (fit : n ≤ length local₁) (I : Purge h n local₁ rec₀ words local rec counts i kept recorded garbage left) (lt : i < n) where
   abbrev o : ℕ
   o = at local i
 
@@ -200,7 +200,7 @@ module _ (h : Held) (n : ℕ) (local₁ rec₀ words local rec counts : List ℕ
     keeps = ap (λ (b : Bool). cond b (round_now h left words counts garbage (take recorded rec) (snoc (take kept local) o)) (record { left = left - 1; held = deleted o now.held })) stays
 
     longer : take (kept + 1) (set local kept o) ≡ snoc (take kept local) o
-    longer = ap (λ (m : ℕ). take m (set local kept o)) (add-one kept) ∙ take-suc-set local kept o (let a = I.local_len in let b = I.kept_le in omega arith)
+    longer = ap (λ (m : ℕ). take m (set local kept o)) (add-one kept) ∙ take-suc-set local kept o (omega arith)
 
     pub purge_keep : Purge h n local₁ rec₀ words (set local kept o) rec counts (i + 1) (kept + 1) recorded garbage left
     purge_keep = record {
@@ -210,7 +210,7 @@ module _ (h : Held) (n : ℕ) (local₁ rec₀ words local rec counts : List ℕ
       local_len = length-set local kept o ∙ I.local_len;
       rec_len = I.rec_len;
       counts_len = I.counts_len;
-      ahead = drop-set-lt (i + 1) local kept o (let a = I.kept_le in omega arith) ∙ drop_more i (i + 1) local local₁ (omega arith) I.ahead;
+      ahead = drop-set-lt (i + 1) local kept o (omega arith) ∙ drop_more i (i + 1) local local₁ (omega arith) I.ahead;
       rec_from = I.rec_from;
       rec_le = I.rec_le;
       behind = I.behind;
@@ -234,15 +234,14 @@ module _ (h : Held) (n : ℕ) (local₁ rec₀ words local rec counts : List ℕ
         let b = ap (λ (x : Round). length (fold_list local_done x rest).held.rec) strikes in
         let c = ap (λ (x : Round). length x.held.rec) stepped in
         let d = length-append (take recorded rec) (strike_line words o) in
-        let e = length-take-le recorded rec (let y = I.rec_len in let z = I.rec_le in omega arith) in
-        let f = I.rec_len in
+        let e = length-take-le recorded rec (omega arith) in
         let g = line_length words o in
         omega arith
 
     line_room : recorded + length (strike_line words o) ≤ length rec
     line_room = let a = record_room in let b = line_length words o in omega arith
 
-    pub purge_strike : (rec' : List ℕ) → rec' ≡ sets rec recorded (strike_line words o)
+    purge_strike : (rec' : List ℕ) → rec' ≡ sets rec recorded (strike_line words o)
         → Purge h n local₁ rec₀ (change_head (with_deleted true) o words) local rec' (less 3 counts) (i + 1) kept (recorded + (len_at words o + 2)) (garbage + size_at words o) (left - 1)
     purge_strike rec' q = subst (λ (m : ℕ). Purge h n local₁ rec₀ (change_head (with_deleted true) o words) local rec' (less 3 counts) (i + 1) kept (recorded + m) (garbage + size_at words o) (left - 1)) (line_length words o)
         (subst (λ (r : List ℕ). Purge h n local₁ rec₀ (change_head (with_deleted true) o words) local r (less 3 counts) (i + 1) kept (recorded + length (strike_line words o)) (garbage + size_at words o) (left - 1)) (sym q) gone)
@@ -257,7 +256,7 @@ module _ (h : Held) (n : ℕ) (local₁ rec₀ words local rec counts : List ℕ
           counts_len = length-set counts 3 (at counts 3 - 1) ∙ I.counts_len;
           ahead = drop_more i (i + 1) local local₁ (omega arith) I.ahead;
           rec_from = let a = I.rec_from in omega arith;
-          rec_le = let a = line_room in let b = I.rec_len in omega arith;
+          rec_le = let a = line_room in omega arith;
           behind = drop_written rec recorded (strike_line words o) line_room ∙ drop_more recorded (recorded + length (strike_line words o)) rec rec₀ (omega arith) I.behind;
           lists = I.lists;
           store = subst (λ (t : ℕ). Store h.vars (change_head (with_deleted true) o words) h.used h.clauses (less t counts) (garbage + size_at words o) I.lists []) three
@@ -269,15 +268,15 @@ module _ (h : Held) (n : ℕ) (local₁ rec₀ words local rec counts : List ℕ
         }
 
     -- in the code's terms
-    pub purge_struck : (words' rec' : List ℕ) (recorded' size : ℕ) → words' ≡ change_head (with_deleted true) o words → rec' ≡ sets rec recorded (strike_line words o) → recorded' ≡ recorded + (len_at words o + 2) → size ≡ len_at words o
+    pub purge_struck : {words' rec' : List ℕ} {recorded' size : ℕ} → words' ≡ change_head (with_deleted true) o words → rec' ≡ sets rec recorded (strike_line words o) → recorded' ≡ recorded + (len_at words o + 2) → size ≡ len_at words o
         → Purge h n local₁ rec₀ words' local rec' (less 3 counts) (i + 1) kept recorded' (garbage + (size + 3)) (left - 1)
-    purge_struck words' rec' recorded' size a b c d =
+    purge_struck {words'} {rec'} {recorded'} {size} a b c d =
         subst (λ (w : List ℕ). Purge h n local₁ rec₀ w local rec' (less 3 counts) (i + 1) kept recorded' (garbage + (size + 3)) (left - 1)) (sym a)
         (subst (λ (m : ℕ). Purge h n local₁ rec₀ (change_head (with_deleted true) o words) local rec' (less 3 counts) (i + 1) kept m (garbage + (size + 3)) (left - 1)) (sym c)
         (subst (λ (m : ℕ). Purge h n local₁ rec₀ (change_head (with_deleted true) o words) local rec' (less 3 counts) (i + 1) kept (recorded + (len_at words o + 2)) (garbage + (m + 3)) (left - 1)) (sym d)
         (purge_strike rec' b)))
 
-pub purge_end : (h : Held) (n : ℕ) (local₁ rec₀ words local rec counts : List ℕ) (i kept recorded garbage left : ℕ) → n ≤ length local₁ → Purge h n local₁ rec₀ words local rec counts i kept recorded garbage left → n ≤ i
+pub purge_end : {h : Held} {n : ℕ} {local₁ rec₀ words local rec counts : List ℕ} {i kept recorded garbage left : ℕ} → n ≤ length local₁ → Purge h n local₁ rec₀ words local rec counts i kept recorded garbage left → n ≤ i
     → round_now h left words counts garbage (take recorded rec) (take kept local) ≡ locals_round h
-purge_end h n local₁ rec₀ words local rec counts i kept recorded garbage left fit I end =
+purge_end {h} {n} {local₁} {rec₀} {words} {local} {rec} {counts} {i} {kept} {recorded} {garbage} {left} fit I end =
     sym (ap (fold_list local_done (round_now h left words counts garbage (take recorded rec) (take kept local))) (left_none local₁ n i end fit) ∙ walk_none local_done (round_now h left words counts garbage (take recorded rec) (take kept local))) ∙ I.goal

@@ -115,7 +115,7 @@ sweep_start h n mid₁ local S e r d locals b q = record {
     emptied : (ts : List (List ℕ)) → length ts ≡ 4 → set ts 2 [] ≡ list_at ts 0 ∷ list_at ts 1 ∷ [] ∷ list_at ts 3 ∷ []
     emptied ts f = ap (λ (x : List (List ℕ)). set x 2 []) (four_lists ts f)
 
-module _ (h : Held) (n : ℕ) (mid₁ local₀ words mid local counts : List ℕ) (i kept locals : ℕ) (fit : n ≤ length mid₁) (I : Sweep h n mid₁ local₀ words mid local counts i kept locals) (lt : i < n) where
+module _ {h : Held} {n : ℕ} {mid₁ local₀ words mid local counts : List ℕ} {i kept locals : ℕ} (fit : n ≤ length mid₁) (I : Sweep h n mid₁ local₀ words mid local counts i kept locals) (lt : i < n) where
   abbrev o : ℕ
   o = at mid i
 
@@ -155,7 +155,7 @@ module _ (h : Held) (n : ℕ) (mid₁ local₀ words mid local counts : List ℕ
     keeps = ap (λ (b : Bool). cond b (mid_kept o now) (tier_set 3 o now)) active
 
     longer : take (kept + 1) (set mid kept o) ≡ snoc (take kept mid) o
-    longer = ap (λ (m : ℕ). take m (set mid kept o)) (add-one kept) ∙ take-suc-set mid kept o (let a = I.mid_len in let b = I.kept_le in omega arith)
+    longer = ap (λ (m : ℕ). take m (set mid kept o)) (add-one kept) ∙ take-suc-set mid kept o (omega arith)
 
     pub sweep_keep : Sweep h n mid₁ local₀ (change_head (with_active false) o words) (set mid kept o) local counts (i + 1) (kept + 1) locals
     sweep_keep =
@@ -167,7 +167,7 @@ module _ (h : Held) (n : ℕ) (mid₁ local₀ words mid local counts : List ℕ
           mid_len = length-set mid kept o ∙ I.mid_len;
           local_len = I.local_len;
           counts_len = I.counts_len;
-          ahead = drop-set-lt (i + 1) mid kept o (let a = I.kept_le in omega arith) ∙ drop_more i (i + 1) mid mid₁ (omega arith) I.ahead;
+          ahead = drop-set-lt (i + 1) mid kept o (omega arith) ∙ drop_more i (i + 1) mid mid₁ (omega arith) I.ahead;
           locals_from = I.locals_from;
           locals_le = I.locals_le;
           behind = I.behind;
@@ -192,8 +192,7 @@ module _ (h : Held) (n : ℕ) (mid₁ local₀ words mid local counts : List ℕ
         let b = ap (λ (x : Held). length (list_at (fold_list mid_done x rest).tiers 3)) moves in
         let c = ap (λ (x : Held). length (list_at x.tiers 3)) stepped in
         let d = length-append (take locals local) (o ∷ []) in
-        let e = length-take-le locals local (let y = I.local_len in let z = I.locals_le in omega arith) in
-        let f = I.local_len in
+        let e = length-take-le locals local (omega arith) in
         omega arith
 
     longer_local : take (locals + 1) (set local locals o) ≡ snoc (take locals local) o
@@ -209,7 +208,7 @@ module _ (h : Held) (n : ℕ) (mid₁ local₀ words mid local counts : List ℕ
       counts_len = length-set (less 2 counts) 3 (at (less 2 counts) 3 + 1) ∙ length-set counts 2 (at counts 2 - 1) ∙ I.counts_len;
       ahead = drop_more i (i + 1) mid mid₁ (omega arith) I.ahead;
       locals_from = let a = I.locals_from in omega arith;
-      locals_le = let a = local_room in let b = I.local_len in omega arith;
+      locals_le = let a = local_room in omega arith;
       behind = drop-set-lt (locals + 1) local locals o (omega arith) ∙ drop_more locals (locals + 1) local local₀ (omega arith) I.behind;
       lists = push 3 o I.lists;
       store = subst (λ (t : ℕ). Store h.vars (change_head (with_tier 3) o words) h.used h.clauses (more 3 (less t counts)) h.garbage (push 3 o I.lists) []) two
@@ -219,7 +218,7 @@ module _ (h : Held) (n : ℕ) (mid₁ local₀ words mid local counts : List ℕ
       goal = ap (λ (l : List ℕ). fold_list mid_done (mids_now h (change_head (with_tier 3) o words) (more 3 (less 2 counts)) (take kept mid) l) rest) longer_local ∙ ap (λ (x : Held). fold_list mid_done x rest) (sym moves) ∙ stepped;
     }
 
-pub sweep_end : (h : Held) (n : ℕ) (mid₁ local₀ words mid local counts : List ℕ) (i kept locals : ℕ) → n ≤ length mid₁ → Sweep h n mid₁ local₀ words mid local counts i kept locals → n ≤ i
+pub sweep_end : {h : Held} {n : ℕ} {mid₁ local₀ words mid local counts : List ℕ} {i kept locals : ℕ} → n ≤ length mid₁ → Sweep h n mid₁ local₀ words mid local counts i kept locals → n ≤ i
     → mids_now h words counts (take kept mid) (take locals local) ≡ mids_reduced h
-sweep_end h n mid₁ local₀ words mid local counts i kept locals fit I end =
+sweep_end {h} {n} {mid₁} {local₀} {words} {mid} {local} {counts} {i} {kept} {locals} fit I end =
     sym (ap (fold_list mid_done (mids_now h words counts (take kept mid) (take locals local))) (left_none mid₁ n i end fit) ∙ walk_none mid_done (mids_now h words counts (take kept mid) (take locals local))) ∙ I.goal

@@ -102,20 +102,20 @@ module _ (s : State) (words clauses irred core mid local : List ℕ) (four : len
         }
 
     -- stale and repeated entries are dropped: mid₁ holds the n that stay, words₁ are the words
-    pub mids_begin : (mid₁ words₁ : List ℕ) (n : ℕ) → Kept words 2 (at s.tiers 2) mid mid₁ n → words₁ ≡ words → at s.tiers 3 ≤ length local → Sweep (view k) n mid₁ local words₁ mid₁ local s.counts 0 0 (at s.tiers 3)
+    pub mids_begin : {mid₁ words₁ : List ℕ} {n : ℕ} → Kept words 2 (at s.tiers 2) mid mid₁ n → words₁ ≡ words → at s.tiers 3 ≤ length local → Sweep (view k) n mid₁ local words₁ mid₁ local s.counts 0 0 (at s.tiers 3)
     unfolding view cleaned_tier
-    mids_begin mid₁ words₁ n e q b =
+    mids_begin {mid₁} {words₁} {n} e q b =
         subst (λ (w : List ℕ). Sweep (view k) n mid₁ local w mid₁ local s.counts 0 0 (at s.tiers 3)) (sym q)
         (sweep_start (view k) n mid₁ local store (e.kept ∙ ap (fold_list (kept_first words 2) []) (sym mid_part)) (kept_ready store 2 (omega arith)) (kept_distinct store 2 (omega arith)) (at s.tiers 3) b local_part)
 
-    pub counts_few : (mid₁ words₁ mid₂ local₁ counts₁ : List ℕ) (n i kept locals : ℕ) → Sweep (view k) n mid₁ local words₁ mid₂ local₁ counts₁ i kept locals → s.clauses ≤ length clauses → (t : ℕ) → t < 4 → at counts₁ t ≤ s.clauses
+    pub counts_few : {mid₁ words₁ mid₂ local₁ counts₁ : List ℕ} {n i kept locals : ℕ} → Sweep (view k) n mid₁ local words₁ mid₂ local₁ counts₁ i kept locals → s.clauses ≤ length clauses → (t : ℕ) → t < 4 → at counts₁ t ≤ s.clauses
     unfolding view
-    counts_few mid₁ words₁ mid₂ local₁ counts₁ n i kept locals I b t h = let a = counts_most I.store t h in let c = length-take-le s.clauses clauses b in omega arith
+    counts_few I b t h = let a = counts_most I.store t h in let c = length-take-le s.clauses clauses b in omega arith
 
   -- ---- the writes, put together
-  module _ (r : MidsReady s words clauses irred core mid local) (n : ℕ) (mid₁ words₁ mid₂ local₁ counts₁ : List ℕ) (i kept locals : ℕ)
+  module _ (r : MidsReady s words clauses irred core mid local) {n : ℕ} {mid₁ words₁ mid₂ local₁ counts₁ : List ℕ} {i kept locals : ℕ}
       (e : Kept words 2 (at s.tiers 2) mid mid₁ n) (long : length mid₁ ≡ length mid) (I : Sweep (view k) n mid₁ local words₁ mid₂ local₁ counts₁ i kept locals) (end : n ≤ i)
-      (mid₃ : List ℕ) (cleared : mid₃ ≡ sets mid₂ kept (replicate (at s.tiers 2 - kept) 0)) where
+      {mid₃ : List ℕ} (cleared : mid₃ ≡ sets mid₂ kept (replicate (at s.tiers 2 - kept) 0)) where
     abbrev m : List ℕ
     m = take kept mid₂
 
@@ -123,18 +123,16 @@ module _ (s : State) (words clauses irred core mid local : List ℕ) (four : len
     l = take locals local₁
 
     kept_few : kept ≤ at s.tiers 2
-    kept_few = let a = I.kept_le in let b = I.i_le in let c = e.few in omega arith
+    kept_few = omega arith
 
     m_length : length m ≡ kept
-    m_length = let a = I.mid_len in let b = kept_few in let c = r.mid_used in length-take-le kept mid₂ (omega arith)
+    m_length = let b = kept_few in length-take-le kept mid₂ (omega arith)
 
     l_length : length l ≡ locals
-    l_length = let a = I.local_len in let b = I.locals_le in length-take-le locals local₁ (omega arith)
+    l_length = length-take-le locals local₁ (omega arith)
 
     mid_filled : mid₃ ≡ fill mid (at s.tiers 2) m
     mid_filled =
-        let a = I.mid_len in
-        let b = r.mid_used in
         cleared ∙ fill_kept mid mid₂ (at s.tiers 2) kept kept_few (omega arith)
         (beyond e.few I.i_le I.ahead ∙ e.rest)
       where
@@ -143,9 +141,6 @@ module _ (s : State) (words clauses irred core mid local : List ℕ) (four : len
 
     local_filled : list_at (view k).tiers 3 ≡ take (at s.tiers 3) local → local₁ ≡ fill local (at s.tiers 3) l
     local_filled part =
-        let a = I.local_len in
-        let b = I.locals_le in
-        let c = I.locals_from in
         let d = ap length part in
         let f = length-take-le (at s.tiers 3) local r.local_used in
         fill_grown local local₁ (at s.tiers 3) locals (omega arith) (omega arith) I.behind
@@ -153,7 +148,7 @@ module _ (s : State) (words clauses irred core mid local : List ℕ) (four : len
     pub mids_laid : judged five_lists k ≡ 0
         → lent_five (state_of s.vars s.words s.clauses (set (set s.tiers 2 kept) 3 locals) s.recorded counts₁ s.garbage s.binary s.activity) words₁ clauses irred core mid₃ local₁ no_host
         ≡ lay five_lists k (mids_reduced (view k))
-    mids_laid j = laid ∙ ap (lay five_lists k) (sweep_end (view k) n mid₁ local words₁ mid₂ local₁ counts₁ i kept locals (let a = e.few in let b = r.mid_used in omega arith) I end)
+    mids_laid j = laid ∙ ap (lay five_lists k) (sweep_end (omega arith) I end)
       where
         lens : set (set s.tiers 2 kept) 3 locals ≡ lengths (list_at (take_each s.tiers k.tiers) 0 ∷ list_at (take_each s.tiers k.tiers) 1 ∷ m ∷ l ∷ [])
         lens = ap₂ (λ (x y : ℕ). set (set s.tiers 2 x) 3 y) (sym m_length) (sym l_length) ∙ four_lengths s.tiers irred core mid local m l r.tiers

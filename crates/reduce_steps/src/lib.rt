@@ -1,4 +1,5 @@
 // The steps of reduce.rs, on what is lent. Each stands on what the judging and the refusals have established.
+// The store's buffers are slices beside the state, each a parameter: "a state by value, slices beside it" (docs/01-scope.md, What must change shape).
 #![tactic(auto)]
 
 ghost use Rattle.std.specs.Prelude.{◌≡◌, true, ◌||◌, [], ℕ, ◌+◌, ◌≤◌, ◌<◌, eqb, length};
@@ -6,14 +7,14 @@ ghost use Rattle.std.proofs.lemmas.List.Edits.{sets};
 ghost use Rattle.kinds.specs.Header.{with_deleted};
 ghost use Rattle.kinds.specs.Clauses.{first_at, var_of, len_at, end_at, lits_at, original_at, change_head};
 ghost use Rattle.kinds.specs.Lines.{line, line_words, strike_kind};
-ghost use Rattle.kinds.specs.Lent.{lent, lent_five, host_of, no_host};
+ghost use Rattle.kinds.specs.Lent.{lent, lent_five, lent_by, no_host};
 ghost use Rattle.kinds.specs.Layout.{view, lay};
 ghost use Rattle.calls.specs.Call.{reduce_mids, reduce_locals, five_lists, five_lists_record_host};
 ghost use Rattle.calls.specs.Reducing.{mids_reduced, locals_reduced, locals_struck};
 ghost use Rattle.calls.specs.Outcome.{judged, own_number};
 ghost use Rattle.asserting.specs.Reads.{asserting_in};
 
-use kinds::State;
+use kinds::{Changed, HostSide, State};
 
 // `reduce_mids`: "inactive ones go to Local in list order; active ones stay, flag cleared".
 pub fn mids(
@@ -33,15 +34,12 @@ pub fn mids(
 {
     let mut lens = s.tiers;
     let mut counts = s.counts;
-    let activity = s.activity;
     let used = lens[2];
     let n = dedup::clean(words, mid, used, 2);
-    let mut i = 0;
     let mut kept = 0;
     let mut locals = lens[3];
-    while i < n {
+    for i in 0..n {
         let cref = mid[i];
-        i += 1;
         let place = cref as usize + 1;
         let head = words[place];
         if header::active_of(head) {
@@ -52,51 +50,27 @@ pub fn mids(
             words[place] = header::with_tier(head, 3);
             local[locals] = cref;
             locals += 1;
-            counts[2] = counts[2] - 1;
-            counts[3] = counts[3] + 1;
+            counts[2] -= 1;
+            counts[3] += 1;
         }
     }
     buffers::clear(mid, kept, used);
     lens[2] = kept;
     lens[3] = locals;
     State {
-        vars: s.vars,
-        words: s.words,
-        clauses: s.clauses,
         tiers: lens,
-        recorded: s.recorded,
-        counts: counts,
-        garbage: s.garbage,
-        binary: s.binary,
-        activity: activity,
+        counts,
+        ..s
     }
-}
-
-// What reducing locals gives: the state, and whether a clause was struck.
-#[derive(Clone, Copy)]
-pub struct LocalsReduced {
-    pub state: State,
-    pub struck: bool,
 }
 
 // It stays: enough are gone, or it is asserting.
-fn spared(
-    left: usize,
-    words: &[u32],
-    offset: usize,
-    values: &[u8],
-    kinds: &[u8],
-    reasons: &[u32],
-    levels: &[u32],
-) -> bool
+fn spared(left: usize, words: &[u32], offset: usize, host: HostSide<'_>) -> bool
     requires offset_in_bounds { offset + 3 < length words.now }
-    requires offset_in_bounds_2 { (var_of (first_at words.now offset) < length values.now) × (var_of (first_at words.now offset) < length kinds.now) × (var_of (first_at words.now offset) < length reasons.now) × (var_of (first_at words.now offset) < length levels.now) }
-    ensures { result ≡ eqb left 0 || asserting_in words.now values.now kinds.now reasons.now offset }
+    requires offset_in_bounds_2 { (var_of (first_at words.now offset) < length host.values.now) × (var_of (first_at words.now offset) < length host.kinds.now) × (var_of (first_at words.now offset) < length host.reasons.now) × (var_of (first_at words.now offset) < length host.levels.now) }
+    ensures { result ≡ eqb left 0 || asserting_in words.now host.entry.values.now host.entry.kinds.now host.entry.reasons.now offset }
 {
-    if left == 0 {
-        return true;
-    }
-    asserting::asserting(words, offset, values, kinds, reasons, levels)
+    left == 0 || asserting::asserting(words, offset, host)
 }
 
 // The line and the deleted bit. Returns the record's used length.
@@ -123,63 +97,49 @@ pub fn locals(
     mid: &mut [u32],
     local: &mut [u32],
     rec: &mut [u32],
-    values: &[u8],
-    kinds: &[u8],
-    reasons: &[u32],
-    levels: &[u32],
-    trail: &[u32],
-    assigned: usize,
-    level: usize,
-) -> LocalsReduced
-    requires level_value { judged five_lists_record_host (lent s words.old clauses.old irred.old core.old mid.old local.old [] [] rec.old (host_of values.now kinds.now reasons.now levels.now trail.now assigned level)) ≡ 0 }
-    requires level_value_2 { own_number reduce_locals (lent s words.old clauses.old irred.old core.old mid.old local.old [] [] rec.old (host_of values.now kinds.now reasons.now levels.now trail.now assigned level)) ≡ 0 }
-    ensures level_after { lent result.state words.new clauses.new irred.new core.new mid.new local.new [] [] rec.new (host_of values.now kinds.now reasons.now levels.now trail.now assigned level)
-        ≡ lay five_lists_record_host (lent s words.old clauses.old irred.old core.old mid.old local.old [] [] rec.old (host_of values.now kinds.now reasons.now levels.now trail.now assigned level))
-        (locals_reduced (view (lent s words.old clauses.old irred.old core.old mid.old local.old [] [] rec.old (host_of values.now kinds.now reasons.now levels.now trail.now assigned level)))) }
-    ensures struck_value { result.struck ≡ locals_struck (view (lent s words.old clauses.old irred.old core.old mid.old local.old [] [] rec.old (host_of values.now kinds.now reasons.now levels.now trail.now assigned level))) }
+    host: HostSide<'_>,
+) -> Changed
+    requires level_value { judged five_lists_record_host (lent s words.old clauses.old irred.old core.old mid.old local.old [] [] rec.old (lent_by host)) ≡ 0 }
+    requires level_value_2 { own_number reduce_locals (lent s words.old clauses.old irred.old core.old mid.old local.old [] [] rec.old (lent_by host)) ≡ 0 }
+    ensures level_after { lent result.state words.new clauses.new irred.new core.new mid.new local.new [] [] rec.new (lent_by host.entry)
+        ≡ lay five_lists_record_host (lent s words.old clauses.old irred.old core.old mid.old local.old [] [] rec.old (lent_by host.entry))
+        (locals_reduced (view (lent s words.old clauses.old irred.old core.old mid.old local.old [] [] rec.old (lent_by host.entry)))) }
+    ensures struck_value { result.rebuild ≡ locals_struck (view (lent s words.old clauses.old irred.old core.old mid.old local.old [] [] rec.old (lent_by host.entry))) }
 {
     let mut lens = s.tiers;
     let mut counts = s.counts;
-    let activity = s.activity;
     let used = lens[3];
     let n = dedup::clean(words, local, used, 3);
     sort::sort_prefix(local, n, words);
     let half = n / 2;
     let mut left = half;
-    let mut i = 0;
     let mut kept = 0;
     let mut recorded = s.recorded;
     let mut garbage = s.garbage;
-    while i < n {
+    for i in 0..n {
         let cref = local[i];
-        i += 1;
         let offset = cref as usize;
-        if spared(left, words, offset, values, kinds, reasons, levels) {
+        if spared(left, words, offset, host) {
             local[kept] = cref;
             kept += 1;
         } else {
             let size = buffers::word(words, offset + 2) + 3;
             recorded = strike_out(words, offset, rec, recorded);
-            counts[3] = counts[3] - 1;
+            counts[3] -= 1;
             garbage += size;
             left -= 1;
         }
     }
     buffers::clear(local, kept, used);
     lens[3] = kept;
-    let state = State {
-        vars: s.vars,
-        words: s.words,
-        clauses: s.clauses,
-        tiers: lens,
-        recorded: recorded,
-        counts: counts,
-        garbage: garbage,
-        binary: s.binary,
-        activity: activity,
-    };
-    LocalsReduced {
-        state: state,
-        struck: left != half,
+    Changed {
+        rebuild: left != half,
+        state: State {
+            tiers: lens,
+            recorded,
+            counts,
+            garbage,
+            ..s
+        },
     }
 }

@@ -14,12 +14,10 @@ fn var_new(lits: &[u32], j: usize) -> bool
     ensures { result ≡ all_below (apart lits.now 0 j) j }
 {
     let own = lits[j] / 2;
-    let mut k = 0usize;
-    while k < j {
-        if lits[k] / 2 == own {
+    for lit in &lits[..j] {
+        if *lit / 2 == own {
             return false;
         }
-        k += 1;
     }
     true
 }
@@ -29,16 +27,10 @@ pub fn lits_pass(vars: usize, lits: &[u32]) -> bool
     requires { vars ≤ 65536 }
     ensures { result ≡ lits_ok lits.now vars 0 (length lits.now) }
 {
-    let mut j = 0usize;
-    while j < lits.len() {
-        let lit = lits[j] as usize;
-        if 2 * vars <= lit {
+    for (j, lit) in lits.iter().enumerate() {
+        if 2 * vars <= *lit as usize || !var_new(lits, j) {
             return false;
         }
-        if !var_new(lits, j) {
-            return false;
-        }
-        j += 1;
     }
     true
 }

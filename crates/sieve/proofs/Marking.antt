@@ -1,6 +1,6 @@
 -- A set of numbers up to 65,536 as binary digits: what one number changes, and what a walk over numbers f 0, f 1, .. finds. Assumes nothing.
-use mathlib.Core.Path.{◌≡◌, refl, sym, ap, ◌∙◌}
-use mathlib.Core.Bool.{Bool, true, false, not, ◌&&◌}
+use mathlib.Core.Path.{◌≡◌, sym, ap, ◌∙◌}
+use mathlib.Core.Bool.{Bool, false, not, ◌&&◌}
 use mathlib.Core.List.{List}
 use Prim.Native.Nat.{ℕ, ◌+◌, ◌/◌, ◌%◌, ◌^◌, ◌≤◌, ◌<◌}
 use native.Mathlib.Decide.{ℕ_discrete}
@@ -14,6 +14,7 @@ use borrow.Author.Tests.{eq-eqb, ne_eqb}
 use Rattle.laws.specs.Fold.{all_below}
 use Rattle.laws.specs.Lists.{at}
 use Rattle.laws.proofs.Folds.{and_fails_right}
+use Rattle.laws.proofs.Tests.{and_true}
 use Rattle.sieve.specs.Digits.{digit, Added, has, Put, other, Marked}
 
 pub put_word : (s : List ℕ) (x v : ℕ) → x / 64 < length s → Added (at s (x / 64)) x v → Put s x (set s (x / 64) v)
@@ -46,10 +47,6 @@ module _ (f : ℕ → ℕ) where
   other_more : (x i : ℕ) → all_below (other f x) (i + 1) ≡ all_below (other f x) i && not (eqb (f i) x)
   unfolding all_below other
   other_more x i = rw add-one
-
-  and_true : (a : Bool) → a && true ≡ a
-  and_true true = refl
-  and_true false = refl
 
   beside : (x i : ℕ) → (f i ≡ x → ⊥) → all_below (other f x) (i + 1) ≡ all_below (other f x) i
   beside x i n = other_more x i ∙ ap (λ (b : Bool). all_below (other f x) i && not b) (ne_eqb (f i) x n) ∙ and_true _

@@ -5,6 +5,7 @@ ghost use Rattle.std.specs.Prelude.{◌≡◌, ◌/◌, ◌<◌, length};
 ghost use Rattle.sieve.specs.Digits.{digit, Added, has, Put};
 
 // The digit of x is set.
+#[tactic(auto, unfolding(crate::specs::Digits::digit))]
 fn met(word: u64, x: u32) -> bool
     ensures { result ≡ digit word x }
 {
@@ -25,7 +26,6 @@ pub fn mark(seen: &mut [u64], x: u32) -> bool
 {
     let place = (x / 64) as usize;
     let word = seen[place];
-    let old = met(word, x);
     seen[place] = with_digit(word, x);
-    old
+    met(word, x)
 }

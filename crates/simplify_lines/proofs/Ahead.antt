@@ -1,21 +1,23 @@
 -- The walk apart from any buffer: the clauses ahead are as they came, the four counts suffice, and garbage stays bounded. Assumes nothing.
-use mathlib.Core.Path.{◌≡◌, refl, sym, ap, ap₂, ◌∙◌, subst}
-use mathlib.Core.Bool.{Bool, true, false, cond, not, ◌&&◌, ◌||◌}
-use mathlib.Core.List.{List, [], ◌∷◌, ◌++◌}
-use Prim.Native.Nat.{ℕ, zero, suc, ◌+◌, ◌-◌, ◌*◌, ◌/◌, ◌%◌, ◌^◌, ◌≤◌, ◌<◌}
+use mathlib.Core.Path.{◌≡◌, refl, ap, ◌∙◌}
+use mathlib.Core.Bool.{Bool, true, false, cond, not, ◌&&◌}
+use mathlib.Core.List.{List, [], ◌∷◌}
+use Prim.Native.Nat.{ℕ, zero, suc, ◌+◌, ◌-◌, ◌*◌, ◌^◌, ◌≤◌, ◌<◌}
 use native.Mathlib.Omega.{arith}
 use native.Mathlib.Decide.{dec_lt, ℕ_discrete}
 use native.Mathlib.Nat.{add-zero}
 use native.Mathlib.Numerals.{add-one}
-use lib.ListN.{length, get_or, set, take, drop, length-set, get_or-eq_default}
+use lib.ListN.{length, length-set, get_or-eq_default}
 use lib.Seq.{sets, length-sets, get_or-set_same, get_or-set_other}
 use lib.Dec.{eqb}
 use borrow.Author.Tests.{eq-eqb}
 use Rattle.laws.specs.Fold.{one, count_below, sum_below}
-use Rattle.laws.specs.Lists.{at, read_n, less}
+use Rattle.laws.specs.Lists.{at, less}
+use Rattle.laws.proofs.Folds.{count_more}
+use Rattle.laws.proofs.Sums.{count_sum, sum_more}
 use Rattle.laws.proofs.Reading.{length_read, read_same, at_sets_above}
-use Rattle.kinds.specs.Clauses.{deleted_at, lits_at, len_at, end_at, size_at, tier_at, head_at, neg, var_of}
-use Rattle.kinds.specs.Held.{Held, with_clauses}
+use Rattle.kinds.specs.Clauses.{deleted_at, lits_at, len_at, end_at, size_at, tier_at, head_at}
+use Rattle.kinds.specs.Held.{Held}
 use Rattle.calls.specs.Adding.{pair_pushed}
 use Rattle.calls.specs.StorePasses.{live_at, live_in, live_size}
 use Rattle.calls.specs.Simplifying.{any_true, unfalsified}
@@ -24,35 +26,19 @@ use Rattle.simplify_lines.proofs.Literals.{unfalsified_length}
 use Rattle.simplify_lines.proofs.Done.{gone, stays, settle, sim_one, state_at, state_zero, state_next, either}
 
 -- ---- counts and sums over more indices
-count_mono : (f : ℕ → Bool) (i d : ℕ) → count_below f i ≤ count_below f (d + i)
-unfolding count_below
-count_mono f i zero = let e : 0 + i ≡ i = omega arith in rw e (omega arith)
-count_mono f i (suc d) = let e : suc d + i ≡ suc (d + i) = omega arith in rw e (omega (arith, count_mono f i d))
-
 sum_mono : (f : ℕ → ℕ) (i d : ℕ) → sum_below f i ≤ sum_below f (d + i)
 unfolding sum_below
 sum_mono f i zero = let e : 0 + i ≡ i = omega arith in rw e (omega arith)
 sum_mono f i (suc d) = let e : suc d + i ≡ suc (d + i) = omega arith in rw e (omega (arith, sum_mono f i d))
 
-count_up : (f : ℕ → Bool) (i : ℕ) → count_below f (i + 1) ≡ count_below f i + one (f i)
-unfolding count_below
-count_up f i = rw add-one
-
-pub sum_up : (f : ℕ → ℕ) (i : ℕ) → sum_below f (i + 1) ≡ sum_below f i + f i
-unfolding sum_below
-sum_up f i = rw add-one
-
-count_within : (f : ℕ → Bool) (i n : ℕ) → i < n → count_below f i + one (f i) ≤ count_below f n
-count_within f i n h =
-    let e : n - (i + 1) + (i + 1) ≡ n = omega arith in
-    let m : count_below f (i + 1) ≤ count_below f n = rw e at (count_mono f (i + 1) (n - (i + 1))) in
-    omega (arith, m, count_up f i)
-
 sum_within : (f : ℕ → ℕ) (i n : ℕ) → i < n → sum_below f i + f i ≤ sum_below f n
 sum_within f i n h =
     let e : n - (i + 1) + (i + 1) ≡ n = omega arith in
     let m : sum_below f (i + 1) ≤ sum_below f n = rw e at (sum_mono f (i + 1) (n - (i + 1))) in
-    omega (arith, m, sum_up f i)
+    omega (arith, m, sum_more f i)
+
+count_within : (f : ℕ → Bool) (i n : ℕ) → i < n → count_below f i + one (f i) ≤ count_below f n
+count_within f i n h = omega (arith, sum_within (λ k. one (f k)) i n h, count_sum f i, count_sum f n)
 
 -- ---- one clause: the words from its end on stay, the counts lose one of its tier at most, and garbage gains its words at most
 pub record Small (o : ℕ) (s t : Held) : Type 0 where
@@ -160,8 +146,8 @@ module _ {h : Held} (R : Walkable h) where
           size = rw e (m.size ∙ A.size);
           frame = λ j b l p q. let z : i + 1 + (j - (i + 1)) ≡ j = omega arith in
               rw e (m.above p (omega (arith, end_is, rw z at (rise i g (j - (i + 1)) (omega arith)))) ∙ A.frame j (omega arith) l p q);
-          counts = λ t. rw (e, count_up (live_in h.words h.clauses t) i) (unfold live_in in unfold live_at in (omega (arith, A.counts t, rw head_same at (m.counts t))));
-          sum = rw (e, sum_up (live_size h.words h.clauses) i) (unfold live_size in unfold live_at in (omega (arith, A.sum, rw (head_same, len_same) at m.sum)));
+          counts = λ t. rw (e, count_more (live_in h.words h.clauses t) i) (unfold live_in in unfold live_at in (omega (arith, A.counts t, rw head_same at (m.counts t))));
+          sum = rw (e, sum_more (live_size h.words h.clauses) i) (unfold live_size in unfold live_at in (omega (arith, A.sum, rw (head_same, len_same) at m.sum)));
           binary = rw e (omega (arith, A.binary, m.binary));
         }
 

@@ -1,18 +1,18 @@
 -- One clause of the walk by its cases, as records, and the states of the walk: each is the step of the one before, and nothing that needs room shrinks. Assumes nothing.
-use mathlib.Core.Path.{◌≡◌, refl, sym, ap, ap₂, ◌∙◌, subst}
-use mathlib.Core.Bool.{Bool, true, false, cond, not, ◌&&◌, ◌||◌}
+use mathlib.Core.Path.{◌≡◌, refl, sym, ap, ◌∙◌, subst}
+use mathlib.Core.Bool.{Bool, true, false, cond}
 use mathlib.Core.List.{List, [], ◌∷◌, ◌++◌, append_assoc, append-nil}
-use Prim.Native.Nat.{ℕ, zero, suc, ◌+◌, ◌-◌, ◌*◌, ◌/◌, ◌%◌, ◌≤◌, ◌<◌}
+use Prim.Native.Nat.{ℕ, zero, suc, ◌+◌, ◌≤◌, ◌<◌}
 use native.Mathlib.Omega.{arith}
 use native.Mathlib.Nat.{le_refl, le_trans}
 use native.Mathlib.Numerals.{add-one}
-use lib.ListN.{length, get_or, set, take, drop, length-set, length-append, take-append-drop}
-use lib.Seq.{sets, length-take-le, take-suc, get_or-take, take_all}
+use lib.ListN.{length, take, drop, length-set, length-append, take-append-drop}
+use lib.Seq.{sets, take-suc, take_all}
 use lib.Dec.{eqb}
 use Rattle.laws.specs.Fold.{fold_list}
 use Rattle.laws.specs.Lists.{at, list_at, snoc, less, push}
 use Rattle.kinds.specs.Header.{with_deleted}
-use Rattle.kinds.specs.Clauses.{deleted_at, lits_at, len_at, size_at, tier_at, original_at, change_head, neg}
+use Rattle.kinds.specs.Clauses.{deleted_at, lits_at, size_at, tier_at, original_at, change_head, neg}
 use Rattle.kinds.specs.Lines.{line, line_words, strike_kind, entry_kind}
 use Rattle.kinds.specs.Held.{Held, Side, held_of, with_clauses}
 use Rattle.kinds.specs.declared.Verdict.TheVariants.{Satisfied, Same, Shorter}
@@ -119,18 +119,6 @@ push_grows (row ∷ rows) (suc r) x (suc q) = push_grows rows r x q
 
 pub pair_grows : (x y : ℕ) (rows : List (List ℕ)) (q : ℕ) → length (list_at rows q) ≤ length (list_at (pair_pushed x y rows) q)
 pair_grows x y rows q = le_trans (push_grows rows (neg x) y q) (push_grows (push (neg x) y rows) (neg y) x q)
-
-pub push_here : (rows : List (List ℕ)) (r x : ℕ) → r < length rows → length (list_at (push r x rows) r) ≡ suc (length (list_at rows r))
-push_here [] r x h = absurd (omega arith)
-push_here (row ∷ rows) zero x h = length-append row (x ∷ []) ∙ omega arith
-push_here (row ∷ rows) (suc r) x h = push_here rows r x (omega arith)
-
-pub push_other : (rows : List (List ℕ)) (r x q : ℕ) → (q ≡ r → ⊥) → length (list_at (push r x rows) q) ≡ length (list_at rows q)
-push_other [] r x q d = refl
-push_other (row ∷ rows) zero x zero d = absurd (d refl)
-push_other (row ∷ rows) zero x (suc q) d = refl
-push_other (row ∷ rows) (suc r) x zero d = refl
-push_other (row ∷ rows) (suc r) x (suc q) d = push_other rows r x q (λ e. d (ap suc e))
 
 gone_grows : (o : ℕ) (said : List ℕ) (rows : List (List ℕ)) (b : ℕ) (s : Held) → length rows ≡ length s.rows → ((r : ℕ) → length (list_at s.rows r) ≤ length (list_at rows r)) → Grows s (gone o said rows b s)
 gone_grows o said rows b s e f = record { rec = rw length-append (omega arith); size = e; row = f; host = refl; vars = refl; used = refl; tiers = refl; activity = refl }

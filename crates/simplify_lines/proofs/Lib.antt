@@ -1,4 +1,3 @@
 pub mod Literals
 pub mod Done
-pub mod Leaves
 pub mod Ahead

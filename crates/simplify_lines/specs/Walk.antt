@@ -1,5 +1,5 @@
 -- The walk over the long clauses, and what it stands on.
-use Rattle.std.specs.Prelude.{◌≡◌, Bool, true, false, List, [], ◌∷◌, ◌++◌, ℕ, ◌+◌, ◌^◌, ◌≤◌, ◌<◌, length}
+use Rattle.std.specs.Prelude.{◌≡◌, true, false, List, [], ℕ, ◌+◌, ◌^◌, ◌≤◌, ◌<◌, length}
 use Rattle.laws.specs.Fold.{count_below, sum_below, fold_list}
 use Rattle.laws.specs.Lists.{at}
 use Rattle.kinds.specs.Clauses.{len_at, lits_at, end_at, deleted_at, neg, var_of}

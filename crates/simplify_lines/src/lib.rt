@@ -1,21 +1,21 @@
 // The leaves of simplifying the long clauses: verdicts, lines of the record, the words of a shorter clause.
 #![tactic(auto)]
 
-ghost use Rattle.std.specs.Prelude.{◌≡◌, Bool, true, false, cond, List, [], ◌∷◌, ◌++◌, ℕ, ◌+◌, ◌-◌, ◌*◌, ◌/◌, ◌%◌, ◌^◌, ◌≤◌, ◌<◌, length, set, eqb, ltb};
+ghost use Rattle.std.specs.Prelude.{◌≡◌, true, ◌∷◌, ℕ, ◌+◌, ◌-◌, ◌^◌, ◌≤◌, ◌<◌, length};
 ghost use Rattle.std.proofs.lemmas.List.Edits.{sets};
-ghost use Rattle.laws.specs.Lists.{at, read_n, less, more};
+ghost use Rattle.laws.specs.Lists.{at, read_n, less};
 ghost use Rattle.kinds.specs.Header.{with_deleted};
-ghost use Rattle.kinds.specs.Clauses.{len_at, lits_at, end_at, size_at, tier_at, original_at, deleted_at, change_head, var_of};
-ghost use Rattle.kinds.specs.Lines.{line, line_words, entry_kind};
-ghost use Rattle.kinds.specs.Setters.{state_of, with_recorded, with_binary_count, with_listed};
-ghost use Rattle.calls.specs.Simplifying.{unfalsified, verdict_of};
+ghost use Rattle.kinds.specs.Clauses.{len_at, lits_at, end_at, size_at, tier_at, original_at, change_head, var_of};
+ghost use Rattle.kinds.specs.Lines.{entry_kind};
+ghost use Rattle.kinds.specs.Setters.{state_of};
+ghost use Rattle.calls.specs.Simplifying.{unfalsified};
 
-use kinds::{Lit, LitValue, State, Verdict};
+use kinds::{Lit, LitValue, State};
 
 // The literals that are not false, of the n from `start` on, over the words of `to` from `place` on.
 pub fn copy_unfalsified(
     to: &mut [u32],
-    place: usize,
+    mut place: usize,
     values: &[u8],
     words: &[u32],
     start: usize,
@@ -26,15 +26,10 @@ pub fn copy_unfalsified(
     requires by_index { (p : ℕ) → p < n → var_of (at words.now (start + p)) < length values.now }
     ensures { to.new ≡ sets to.old place (unfalsified values.now (read_n words.now start n)) }
 {
-    let mut i = place;
-    let mut j = start;
-    let end = start + n;
-    while j < end {
-        let l = words[j];
-        j += 1;
-        let LitValue::False = kinds::lit_value(values, Lit(l)) else {
-            to[i] = l;
-            i += 1;
+    for &lit in &words[start..start + n] {
+        let LitValue::False = kinds::lit_value(values, Lit(lit)) else {
+            to[place] = lit;
+            place += 1;
             continue;
         };
     }
@@ -56,8 +51,7 @@ pub fn enter(
 {
     let n = buffers::word(words, offset + 2);
     let original = header::tier_of(words[offset + 1]) == 0;
-    let kind = record::entry_kind(original, m);
-    rec[used] = kind;
+    rec[used] = record::entry_kind(original, m);
     rec[used + 1] = m as u32;
     copy_unfalsified(rec, used + 2, values, words, offset + 3, n);
     used + (m + 2)
@@ -81,80 +75,13 @@ pub fn drop_clause(s: State, words: &mut [u32], offset: usize, recorded: usize) 
     let head = words[offset + 1];
     let tier = header::tier_of(head) as usize;
     let n = buffers::word(words, offset + 2);
-    let tiers = s.tiers;
-    let mut counts = s.counts;
-    let activity = s.activity;
-    counts[tier] = counts[tier] - 1;
     words[offset + 1] = header::with_deleted(head, true);
+    let mut counts = s.counts;
+    counts[tier] -= 1;
     State {
-        vars: s.vars,
-        words: s.words,
-        clauses: s.clauses,
-        tiers: tiers,
-        recorded: recorded,
-        counts: counts,
+        recorded,
+        counts,
         garbage: s.garbage + (n + 3),
-        binary: s.binary,
-        activity: activity,
-    }
-}
-
-// The state with another used length of the record.
-pub fn with_recorded(s: State, recorded: usize) -> State
-    ensures { result ≡ with_recorded recorded s }
-{
-    let tiers = s.tiers;
-    let counts = s.counts;
-    let activity = s.activity;
-    State {
-        vars: s.vars,
-        words: s.words,
-        clauses: s.clauses,
-        tiers: tiers,
-        recorded: recorded,
-        counts: counts,
-        garbage: s.garbage,
-        binary: s.binary,
-        activity: activity,
-    }
-}
-
-// The state with another used length of the clause list.
-pub fn with_listed(s: State, listed: usize) -> State
-    ensures { result ≡ with_listed listed s }
-{
-    let tiers = s.tiers;
-    let counts = s.counts;
-    let activity = s.activity;
-    State {
-        vars: s.vars,
-        words: s.words,
-        clauses: listed,
-        tiers: tiers,
-        recorded: s.recorded,
-        counts: counts,
-        garbage: s.garbage,
-        binary: s.binary,
-        activity: activity,
-    }
-}
-
-// The state with another binary count.
-pub fn with_binary(s: State, binary: usize) -> State
-    ensures { result ≡ with_binary_count binary s }
-{
-    let tiers = s.tiers;
-    let counts = s.counts;
-    let activity = s.activity;
-    State {
-        vars: s.vars,
-        words: s.words,
-        clauses: s.clauses,
-        tiers: tiers,
-        recorded: s.recorded,
-        counts: counts,
-        garbage: s.garbage,
-        binary: binary,
-        activity: activity,
+        ..s
     }
 }

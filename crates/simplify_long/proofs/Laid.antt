@@ -1,26 +1,25 @@
 -- Buffers that hold a state of the walk, and what one clause does to both. Assumes nothing.
-use mathlib.Core.Path.{◌≡◌, refl, sym, ap, ap₂, ◌∙◌, subst}
-use mathlib.Core.Bool.{Bool, true, false, cond}
-use mathlib.Core.List.{List, [], ◌∷◌, ◌++◌, append_assoc}
-use Prim.Native.Nat.{ℕ, zero, suc, ◌+◌, ◌-◌, ◌*◌, ◌/◌, ◌%◌, ◌≤◌, ◌<◌, max}
+use mathlib.Core.Path.{◌≡◌, refl, sym, ap, ap₂, ◌∙◌}
+use mathlib.Core.Bool.{true}
+use mathlib.Core.List.{List, [], ◌∷◌, ◌++◌}
+use Prim.Native.Nat.{ℕ, suc, ◌+◌, ◌-◌, ◌≤◌, ◌<◌}
 use native.Mathlib.Omega.{arith}
 use native.Mathlib.Numerals.{add-one}
-use native.Mathlib.Nat.{le_trans}
-use lib.ListN.{length, set, take, drop, replicate, length-set, length-append, length-replicate, take-append-drop}
-use lib.Seq.{sets, sets-eq, length-sets, take-suc-set, length-take-le}
-use Rattle.laws.specs.Lists.{at, list_at, snoc, less, more, push, lengths, fill}
+use lib.ListN.{length, set, take, drop, replicate, length-set, length-append}
+use lib.Seq.{sets, take-suc-set, length-take-le}
+use Rattle.laws.specs.Lists.{at, list_at, less, more, push, lengths, fill}
 use Rattle.laws.proofs.Fills.{fill_same}
 use Rattle.laws.proofs.Closing.{fill_sets, closed}
 use Rattle.kinds.specs.Header.{with_deleted}
 use Rattle.kinds.specs.Clauses.{tier_at, size_at, change_head, neg}
-use Rattle.kinds.specs.Lent.{Lent, Host, room_of}
+use Rattle.kinds.specs.Lent.{Lent, room_of}
 use Rattle.kinds.specs.Held.{Held, Side, with_clauses}
 use Rattle.kinds.specs.Layout.{rows_of, fill_rows, side, view, lay_state, lay_host, lay}
-use Rattle.kinds.specs.Setters.{state_of, with_listed, with_recorded, with_binary_count}
+use Rattle.kinds.specs.Setters.{state_of, with_listed, with_recorded}
 use Rattle.kinds.specs.declared.State.{State}
 use Rattle.kinds.specs.declared.ClauseActivity.{ClauseActivity}
 use Rattle.kinds.proofs.Layouts.{Sized, AllFit, rows_fill}
-use Rattle.kinds.proofs.RowLayout.{Growing, lengths_rows, length_lengths, at_lengths, lengths_push, rows_same, rows_again}
+use Rattle.kinds.proofs.RowLayout.{Growing, lengths_rows, at_lengths, lengths_push, rows_same, rows_again}
 use Rattle.calls.specs.Adding.{pair_pushed}
 use Rattle.simplify_lines.specs.Walk.{walk_parts}
 use Rattle.simplify_lines.proofs.Done.{Grows, gone, stays, pair_grows}

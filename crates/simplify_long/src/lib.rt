@@ -1,7 +1,8 @@
 // The long-clause half of `unit_simplify`.
+// The store's buffers are slices beside the state, each a parameter: "a state by value, slices beside it" (docs/01-scope.md, What must change shape).
 #![tactic(auto)]
 
-ghost use Rattle.std.specs.Prelude.{◌≡◌, ℕ};
+ghost use Rattle.std.specs.Prelude.{◌≡◌};
 ghost use Rattle.kinds.specs.Layout.{view, lay};
 ghost use Rattle.simplify_lines.specs.Walk.{walk_parts, lent_walk, longs_done};
 ghost use Rattle.simplify_long.specs.Ready.{LongReady};
@@ -27,35 +28,31 @@ pub fn simplify_long(
     let n = start.clauses;
     let room = rows.len() / (2 * start.vars);
     let mut s = start;
-    let mut i = 0usize;
-    let mut to = 0usize;
-    'clauses: while i < n {
+    let mut to = 0;
+    'clauses: for i in 0..n {
         let o = clauses[i];
         let offset = o as usize;
-        i += 1;
         if header::deleted_of(words[offset + 1]) {
             continue 'clauses;
         }
-        let len = words[offset + 2] as usize;
-        let mut j = 0usize;
-        let mut kept = 0usize;
-        let verdict = loop {
-            if j == len {
-                if kept == len {
-                    break Verdict::Same;
-                }
-                break Verdict::Shorter(kept);
-            }
-            let value = kinds::lit_value(values, Lit(words[offset + 3 + j]));
-            let LitValue::True = value else {
-                j += 1;
-                let LitValue::Unassigned = value else {
+        let lits = alloc::lits(words, offset);
+        let verdict = 'lits: {
+            let mut kept = 0;
+            for &lit in lits {
+                let value = kinds::lit_value(values, Lit(lit));
+                let LitValue::True = value else {
+                    let LitValue::Unassigned = value else {
+                        continue;
+                    };
+                    kept += 1;
                     continue;
                 };
-                kept += 1;
-                continue;
-            };
-            break Verdict::Satisfied;
+                break 'lits Verdict::Satisfied;
+            }
+            if kept == lits.len() {
+                break 'lits Verdict::Same;
+            }
+            Verdict::Shorter(kept)
         };
         let used = s.recorded;
         let Verdict::Shorter(m) = verdict else {
@@ -72,16 +69,16 @@ pub fn simplify_long(
         let end = record::strike(words, offset, rec, mid, 6);
         if m == 2 {
             binary::add_binary_clause(rows, room, counts, Lit(rec[used + 2]), Lit(rec[used + 3]));
-            let pairs = s.binary + 1;
-            let dropped = simplify_lines::drop_clause(s, words, offset, end);
-            s = simplify_lines::with_binary(dropped, pairs);
+            s = simplify_lines::drop_clause(s, words, offset, end);
+            s.binary += 1;
             continue 'clauses;
         }
         simplify_lines::write_front(words, offset, rec, used + 2, m);
-        s = simplify_lines::with_recorded(s, end);
+        s.recorded = end;
         clauses[to] = o;
         to += 1;
     }
     buffers::clear(clauses, to, n);
-    simplify_lines::with_listed(s, to)
+    s.clauses = to;
+    s
 }

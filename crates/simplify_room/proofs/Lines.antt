@@ -1,13 +1,12 @@
 -- The lines of the cleaning are few. Assumes nothing.
-use mathlib.Core.Path.{◌≡◌, refl, sym, ap, ◌∙◌}
-use mathlib.Core.List.{List, [], ◌∷◌, ◌++◌}
-use Prim.Native.Nat.{ℕ, zero, suc, ◌+◌, ◌*◌, ◌/◌, ◌^◌, ◌≤◌, ◌<◌}
+use mathlib.Core.Path.{ap}
+use mathlib.Core.List.{List, [], ◌∷◌}
+use Prim.Native.Nat.{ℕ, suc, ◌*◌, ◌^◌, ◌≤◌}
 use native.Mathlib.Omega.{arith}
-use native.Mathlib.Nat.{suc-mul, zero-mul, le_trans}
-use lib.ListN.{length, take, drop, length-append, length-drop}
+use native.Mathlib.Nat.{suc-mul}
+use lib.ListN.{length, take, drop, length-append}
 use lib.Seq.{length-take-le}
-use Rattle.laws.specs.Lists.{at}
-use Rattle.kinds.specs.Lines.{Line, line_words, flat}
+use Rattle.kinds.specs.Lines.{flat}
 use Rattle.kinds.specs.Lent.{Lent, room_of}
 use Rattle.kinds.specs.Layout.{rows_of}
 use Rattle.kinds.proofs.Layouts.{Sized, sized_of}

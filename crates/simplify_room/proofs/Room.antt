@@ -1,36 +1,37 @@
 -- The lengths that record and rows have after the finished call, and that the test is `fit`. Assumes nothing.
 use mathlib.Core.Path.{◌≡◌, refl, sym, ap, ap₂, ◌∙◌, subst}
-use mathlib.Core.Bool.{Bool, true, false, cond, not, ◌&&◌, ◌||◌}
-use mathlib.Core.List.{List, [], ◌∷◌, ◌++◌}
-use Prim.Native.Nat.{ℕ, zero, suc, ◌+◌, ◌-◌, ◌*◌, ◌/◌, ◌^◌, ◌≤◌, ◌<◌}
+use mathlib.Core.Bool.{Bool, true, false, cond, not, ◌&&◌}
+use mathlib.Core.List.{List, [], ◌∷◌}
+use Prim.Native.Nat.{ℕ, zero, suc, ◌+◌, ◌*◌, ◌^◌, ◌≤◌, ◌<◌}
 use native.Mathlib.Omega.{arith}
 use native.Mathlib.Decide.{dec_lt, ℕ_discrete}
-use native.Mathlib.Nat.{add-zero, zero-add, mul-div-le, div-le_self, le_trans}
+use native.Mathlib.Nat.{zero-add, div-le_self}
 use native.Mathlib.Numerals.{add-one}
-use lib.ListN.{length, get_or, set, take, drop, replicate, length-set, length-append, length-replicate, get_or-replicate, get_or-eq_default}
+use lib.ListN.{length, take, replicate, length-set, length-append, length-replicate, get_or-replicate, get_or-eq_default}
 use lib.Seq.{sets, length-sets, get_or-take, length-take-le, get_or-set_same, get_or-set_other}
 use lib.Dec.{eqb, leb}
-use borrow.Author.Tests.{le-leb, lt-leb, leb-true}
+use borrow.Author.Tests.{le-leb, lt-leb}
 use Rattle.laws.specs.Fold.{all_below, sum_below, fold_below}
-use Rattle.laws.specs.Lists.{at, list_at, snoc, push, more, lengths, joined}
+use Rattle.laws.specs.Lists.{at, list_at, snoc, push, more, lengths}
 use Rattle.laws.proofs.Reading.{length_read, at_sets, at_sets_above}
-use Rattle.laws.proofs.Folds.{and_both, and_fails_left, and_fails_right, all_same, fold_more}
-use Rattle.laws.proofs.Sums.{sum_same}
+use Rattle.laws.proofs.Folds.{and_both, and_fails_right, all_same, fold_more}
+use Rattle.laws.proofs.Sums.{sum_same, sum_more}
+use Rattle.laws.proofs.Tests.{and_true}
 use Rattle.kinds.specs.Clauses.{len_at, lits_at, deleted_at, end_at, neg, var_of}
 use Rattle.kinds.specs.Lines.{flat}
 use Rattle.kinds.specs.Lent.{Lent, room_of}
-use Rattle.kinds.specs.Held.{Held, with_clauses}
-use Rattle.kinds.specs.Layout.{rows_of, view, side, fit, fit_row, lent_then}
+use Rattle.kinds.specs.Held.{Held}
+use Rattle.kinds.specs.Layout.{rows_of, view, side, fit, fit_row}
 use Rattle.kinds.specs.declared.Verdict.TheVariants.{Satisfied, Same, Shorter}
 use Rattle.kinds.proofs.Layouts.{sized_of}
 use Rattle.kinds.proofs.RowLayout.{length_lengths, at_lengths, lengths_push, lengths_rows, length_rows}
 use Rattle.calls.specs.Adding.{pair_pushed}
 use Rattle.calls.specs.HostPasses.{at_most_at}
-use Rattle.calls.specs.Simplifying.{any_true, unfalsified, verdict_of, row_cleaned, rows_cleaned, rows_strikes, binaries_cleaned, simplified}
+use Rattle.calls.specs.Simplifying.{any_true, unfalsified, verdict_of, rows_cleaned, rows_strikes, binaries_cleaned, simplified}
 use Rattle.binary_clean.proofs.OneRow.{cleaned_length}
 use Rattle.simplify_lines.specs.Walk.{Walkable, walk_parts, longs_done}
 use Rattle.simplify_lines.proofs.Done.{gone, stays, settle, sim_one, strike_line, enter_line, short_lines_lem, state_at, state_zero, state_next, state_end, state_first, either}
-use Rattle.simplify_lines.proofs.Ahead.{Ahead, ahead, head_same, len_same, lits_same, sum_up}
+use Rattle.simplify_lines.proofs.Ahead.{ahead, head_same, len_same, lits_same}
 use Rattle.simplify_room.specs.Needed.{verdict_words, clause_words, becomes_pair, pair_tallied, RoomReady}
 
 -- ---- one clause
@@ -94,7 +95,7 @@ module _ {h : Held} (R : Walkable h) where
           let A = ahead R i (omega arith) in
           let here : length (state_at h (i + 1)).rec ≡ length (state_at h i).rec + need i =
           unfold clause_words in (rw (state_next h i l, ← lits_same R i l A, ← head_same R i l A, ← len_same R i l A) (one_words h.host.values (at h.clauses i) (state_at h i))) in
-          omega (arith, here, e, sum_up need i)
+          omega (arith, here, e, sum_more need i)
 
   pub row_lengths : (i : ℕ) → i ≤ length h.clauses → lengths (state_at h i).rows ≡ fold_below (pair_tallied h.host.values h.words h.clauses) (lengths h.rows) i
   row_lengths zero g = rw (state_zero h) (unfold fold_below in refl)
@@ -309,8 +310,4 @@ module _ {k : Lent} (R : RoomReady k) where
   unfolding fit
   room_is e f h e₁ e₂ g =
       let r : leb (length (simplified (view k)).rec) (length k.rec) ≡ true = le-leb (length (simplified (view k)).rec) (length k.rec) (omega (arith, rec_is e f)) in
-      g ∙ rows_test e₁ e₂ ∙ sym (ap₂ (λ (x y : Bool). x && (all_below (fit_row k (simplified (view k))) (2 * k.state.vars) && y)) words_test r ∙ last (all_below (fit_row k (simplified (view k))) (2 * k.state.vars)))
-    where
-      last : (b : Bool) → b && true ≡ b
-      last true = refl
-      last false = refl
+      g ∙ rows_test e₁ e₂ ∙ sym (ap₂ (λ (x y : Bool). x && (all_below (fit_row k (simplified (view k))) (2 * k.state.vars) && y)) words_test r ∙ and_true (all_below (fit_row k (simplified (view k))) (2 * k.state.vars)))

@@ -1,24 +1,24 @@
 -- What each clause adds to the record and to the rows, by its verdict. Assumes nothing.
-use mathlib.Core.Path.{◌≡◌, refl, sym, ap, ap₂, ◌∙◌, subst}
-use mathlib.Core.Bool.{Bool, true, false, cond, not, ◌&&◌, ◌||◌}
-use mathlib.Core.Logic.{⊎_elim, ◌⊎◌, inl, inr}
+use mathlib.Core.Path.{◌≡◌, refl, sym, ◌∙◌}
+use mathlib.Core.Bool.{Bool, true, false, cond}
 use mathlib.Core.List.{List, [], ◌∷◌}
-use Prim.Native.Nat.{ℕ, zero, suc, ◌+◌, ◌-◌, ◌*◌, ◌^◌, ◌≤◌, ◌<◌}
+use Prim.Native.Nat.{ℕ, ◌+◌, ◌*◌, ◌^◌, ◌≤◌, ◌<◌}
 use native.Mathlib.Omega.{arith}
 use native.Mathlib.Decide.{dec_lt, ℕ_discrete}
-use lib.ListN.{length, get_or, set, length-set, get_or-eq_default}
+use lib.ListN.{length, length-set, get_or-eq_default}
 use lib.Seq.{sets, get_or-set_same, get_or-set_other}
 use lib.Dec.{eqb}
 use borrow.Author.Tests.{eq-eqb, ne_eqb}
-use Rattle.laws.specs.Lists.{at, more, read_n}
-use Rattle.laws.specs.Fold.{fold_below}
+use Rattle.laws.specs.Lists.{at, more}
+use Rattle.laws.specs.Fold.{fold_below, sum_below}
 use Rattle.laws.proofs.Reading.{length_read}
-use Rattle.laws.proofs.Folds.{fold_none, fold_next}
+use Rattle.laws.proofs.Sums.{sum_more}
+use Rattle.laws.proofs.Folds.{fold_next}
 use Rattle.kinds.specs.Clauses.{len_at, lits_at, deleted_at, neg}
 use Rattle.kinds.specs.declared.Verdict.{Verdict}
 use Rattle.kinds.specs.declared.Verdict.TheVariants.{Satisfied, Same, Shorter}
 use Rattle.calls.specs.Simplifying.{any_true, unfalsified, verdict_of}
-use Rattle.simplify_lines.proofs.Literals.{unfalsified_length, vtag, Told, is_satisfied, is_same, is_shorter}
+use Rattle.simplify_lines.proofs.Literals.{unfalsified_length, is_satisfied, is_same, is_shorter}
 use Rattle.simplify_room.specs.Needed.{verdict_words, clause_words, becomes_pair, pair_tallied}
 
 pub more_le : (l : List ℕ) (k c : ℕ) → at (more k l) c ≤ at l c + 1
@@ -36,14 +36,18 @@ two_list (x ∷ y ∷ []) m h e = e
 two_list (x ∷ y ∷ z ∷ r) m h e = absurd (omega arith)
 
 -- ---- words
-module _ (a ws l : List ℕ) (i : ℕ) where
-  pub words_deleted : deleted_at ws (at l i) ≡ true → clause_words a ws l i ≡ 0
-  unfolding clause_words
-  words_deleted d = ap (λ (b : Bool). cond b 0 (verdict_words (verdict_of a (lits_at ws (at l i))) (len_at ws (at l i)))) d
+pub record Summed (a ws l : List ℕ) (i sum : ℕ) : Type 0 where
+  pub is : sum ≡ sum_below (clause_words a ws l) i
+  pub most : sum ≤ i * 2 ^ 34
 
-  pub words_live : deleted_at ws (at l i) ≡ false → {v : Verdict} → v ≡ verdict_of a (lits_at ws (at l i)) → verdict_words v (len_at ws (at l i)) ≡ clause_words a ws l i
+module _ {a ws l : List ℕ} {i sum : ℕ} (S : Summed a ws l i sum) {o : ℕ} (q : o ≡ at l i) where
+  pub summed_dead : deleted_at ws o ≡ true → Summed a ws l (i + 1) sum
   unfolding clause_words
-  words_live d e = ap (λ (v : Verdict). verdict_words v (len_at ws (at l i))) e ∙ sym (ap (λ (b : Bool). cond b 0 (verdict_words (verdict_of a (lits_at ws (at l i))) (len_at ws (at l i)))) d)
+  summed_dead d = record { is = rw (sum_more (clause_words a ws l) i, ← q, d) (omega (arith, S.is)); most = omega (arith, S.most) }
+
+  pub summed_live : deleted_at ws o ≡ false → {v : Verdict} → v ≡ verdict_of a (lits_at ws o) → {w : ℕ} → (w ≡ verdict_words v (len_at ws o)) × (w < 2 ^ 34) → Summed a ws l (i + 1) (sum + w)
+  unfolding clause_words
+  summed_live d e w = record { is = rw (sum_more (clause_words a ws l) i, ← q, d, ← e) (omega (arith, S.is, w.0)); most = omega (arith, S.most, w.1) }
 
 pub verdict_small : (a ws : List ℕ) (o : ℕ) → len_at ws o < 2 ^ 32 → {v : Verdict} → v ≡ verdict_of a (lits_at ws o) → verdict_words v (len_at ws o) < 2 ^ 34
 unfolding verdict_of
@@ -54,67 +58,42 @@ verdict_small a ws o h e = rw e (go (any_true a (lits_at ws o)) (eqb (length (un
     go false true = omega arith
     go false false = omega (arith, unfalsified_length a (lits_at ws o), length_read ws (o + 3) (len_at ws o))
 
--- what is left where an arm took `Shorter`
-pub vtag_left : (v : Verdict) → ((m : ℕ) → v ≡ Shorter m → ⊥) → (vtag v ≡ 0) ⊎ (vtag v ≡ 1)
-vtag_left Satisfied h = inl refl
-vtag_left Same h = inr refl
-vtag_left (Shorter m) h = absurd (h m refl)
-
 -- ---- rows
-module _ (a ws l t : List ℕ) (i : ℕ) where
+-- the tests of `becomes_pair`
+module _ (a ws : List ℕ) (o : ℕ) where
   abbrev ls : List ℕ
-  ls = lits_at ws (at l i)
+  ls = lits_at ws o
 
   abbrev r : List ℕ
-  r = unfalsified a (lits_at ws (at l i))
+  r = unfalsified a (lits_at ws o)
 
-  skip : becomes_pair a ws (at l i) ≡ false → pair_tallied a ws l t i ≡ t
-  unfolding pair_tallied
-  skip e = ap (λ (b : Bool). cond b (more (neg (at r 1)) (more (neg (at r 0)) t)) t) e
-
-  tests : (d u s w : Bool) → deleted_at ws (at l i) ≡ d → any_true a ls ≡ u → eqb (length r) (length ls) ≡ s → eqb (length r) 2 ≡ w → becomes_pair a ws (at l i) ≡ (not d && (not u && (not s && w)))
+  pub pair_dead : deleted_at ws o ≡ true → becomes_pair a ws o ≡ false
   unfolding becomes_pair
-  tests d u s w p q x y = ap₂ (λ (e f : Bool). not e && (not f && (not (eqb (length r) (length ls)) && eqb (length r) 2))) p q ∙ ap₂ (λ (e f : Bool). not d && (not u && (not e && f))) x y
+  pair_dead d = rw d
 
-  pub pair_deleted : deleted_at ws (at l i) ≡ true → pair_tallied a ws l t i ≡ t
-  pair_deleted d = skip (tests true (any_true a ls) (eqb (length r) (length ls)) (eqb (length r) 2) d refl refl refl)
+  module _ (d : deleted_at ws o ≡ false) {v : Verdict} (e : v ≡ verdict_of a (lits_at ws o)) where
+    pub pair_none : ((m : ℕ) → v ≡ Shorter m → ⊥) → becomes_pair a ws o ≡ false
+    unfolding becomes_pair
+    pair_none f = go v refl f
+      where
+        go : (u : Verdict) → u ≡ v → ((m : ℕ) → u ≡ Shorter m → ⊥) → becomes_pair a ws o ≡ false
+        go Satisfied g f = rw (d, is_satisfied a ls e (sym g))
+        go Same g f = let s = is_same a ls e (sym g) in rw (d, s.0, eq-eqb (length r) (length ls) s.1)
+        go (Shorter m) g f = absurd (f m refl)
 
-  module _ (d : deleted_at ws (at l i) ≡ false) {v : Verdict} (W : Told a (lits_at ws (at l i)) v) where
-    pub pair_none : (vtag v ≡ 0) ⊎ (vtag v ≡ 1) → pair_tallied a ws l t i ≡ t
-    pair_none g = ⊎_elim
-        (λ e. skip (tests false true (eqb (length r) (length ls)) (eqb (length r) 2) d (is_satisfied W e) refl refl))
-        (λ e. skip (tests false false true (eqb (length r) 2) d (is_same W e).0 (eq-eqb (length r) (length ls) (is_same W e).1) refl))
-        g
+    module _ (m : ℕ) (g : v ≡ Shorter m) where
+      pub left_is : m ≡ length (unfalsified a (lits_at ws o))
+      left_is = (is_shorter a ls e m g).1
 
-    module _ (m : ℕ) (e : v ≡ Shorter m) where
-      pub left_is : m ≡ length (unfalsified a (lits_at ws (at l i)))
-      left_is = (is_shorter W m (sym e)).1
+      by_length : becomes_pair a ws o ≡ eqb (length r) 2
+      unfolding becomes_pair
+      by_length = let s = is_shorter a ls e m g in rw (d, s.0, ne_eqb (length r) (length ls) (λ z. s.2 (s.1 ∙ z)))
 
-      other : eqb (length r) (length ls) ≡ false
-      other = ne_eqb (length r) (length ls) (λ z. (is_shorter W m (sym e)).2 (left_is ∙ z))
+      pub pair_many : (m ≡ 2 → ⊥) → becomes_pair a ws o ≡ false
+      pair_many n = by_length ∙ ne_eqb (length r) 2 (λ z. n (left_is ∙ z))
 
-      pub pair_many : (m ≡ 2 → ⊥) → pair_tallied a ws l t i ≡ t
-      pair_many n = skip (tests false false false false d (is_shorter W m (sym e)).0 other (ne_eqb (length r) 2 (λ z. n (left_is ∙ z))))
-
-      pub pair_two : m ≡ 2 → pair_tallied a ws l t i ≡ more (neg (at r 1)) (more (neg (at r 0)) t)
-      unfolding pair_tallied
-      pair_two w = ap (λ (b : Bool). cond b (more (neg (at r 1)) (more (neg (at r 0)) t)) t) (tests false false false true d (is_shorter W m (sym e)).0 other (eq-eqb (length r) 2 (sym left_is ∙ w)))
-
-  pub pair_length : length (pair_tallied a ws l t i) ≡ length t
-  unfolding pair_tallied
-  pair_length = go (becomes_pair a ws (at l i))
-    where
-      go : (b : Bool) → length (cond b (more (neg (at r 1)) (more (neg (at r 0)) t)) t) ≡ length t
-      go true = length-set (more (neg (at r 0)) t) (neg (at r 1)) _ ∙ length-set t (neg (at r 0)) _
-      go false = refl
-
-  pub pair_bound : (c : ℕ) → at (pair_tallied a ws l t i) c ≤ at t c + 2
-  unfolding pair_tallied
-  pair_bound c = go (becomes_pair a ws (at l i))
-    where
-      go : (b : Bool) → at (cond b (more (neg (at r 1)) (more (neg (at r 0)) t)) t) c ≤ at t c + 2
-      go true = omega (arith, more_le (more (neg (at r 0)) t) (neg (at r 1)) c, more_le t (neg (at r 0)) c)
-      go false = omega arith
+      pub pair_two : m ≡ 2 → becomes_pair a ws o ≡ true
+      pair_two w = by_length ∙ eq-eqb (length r) 2 (sym left_is ∙ w)
 
 -- ---- the loop over the entries
 pub record Tallied (a ws l t₀ : List ℕ) (i : ℕ) (t : List ℕ) : Type 0 where
@@ -122,12 +101,15 @@ pub record Tallied (a ws l t₀ : List ℕ) (i : ℕ) (t : List ℕ) : Type 0 wh
   pub size : length t ≡ length t₀
   pub bound : (c : ℕ) → at t c ≤ 2 ^ 24 + 2 * i
 
-pub tallied_start : (a ws l t : List ℕ) → ((c : ℕ) → at t c ≤ 2 ^ 24) → Tallied a ws l t 0 t
-tallied_start a ws l t h = record { is = sym (fold_none (pair_tallied a ws l) t); size = refl; bound = λ c. omega (arith, h c) }
+module _ {a ws l t₀ : List ℕ} {i : ℕ} {t : List ℕ} (T : Tallied a ws l t₀ i t) {o : ℕ} (q : o ≡ at l i) where
+  pub tallied_same : becomes_pair a ws o ≡ false → Tallied a ws l t₀ (i + 1) t
+  unfolding pair_tallied
+  tallied_same b = record { is = fold_next (pair_tallied a ws l) t₀ i T.is (rw (← q, b)); size = T.size; bound = λ c. omega (arith, T.bound c) }
 
-pub tallied_next : {a ws l t₀ : List ℕ} {i : ℕ} {t t' : List ℕ} → Tallied a ws l t₀ i t → t' ≡ pair_tallied a ws l t i → Tallied a ws l t₀ (i + 1) t'
-tallied_next {a} {ws} {l} {t₀} {i} {t} {t'} T e = record {
-  is = fold_next (pair_tallied a ws l) t₀ i T.is e;
-  size = ap length e ∙ pair_length a ws l t i ∙ T.size;
-  bound = λ c. omega (arith, ap (λ (x : List ℕ). at x c) e, pair_bound a ws l t i c, T.bound c);
-}
+  pub tallied_pair : becomes_pair a ws o ≡ true → {two : List ℕ} → two ≡ unfalsified a (lits_at ws o) → {t' : List ℕ} → t' ≡ more (neg (at two 1)) (more (neg (at two 0)) t) → Tallied a ws l t₀ (i + 1) t'
+  unfolding pair_tallied
+  tallied_pair b {two} e f = record {
+    is = fold_next (pair_tallied a ws l) t₀ i T.is (f ∙ rw (← q, b, ← e));
+    size = rw f (length-set (more (neg (at two 0)) t) (neg (at two 1)) _ ∙ length-set t (neg (at two 0)) _ ∙ T.size);
+    bound = λ c. rw f (omega (arith, more_le (more (neg (at two 0)) t) (neg (at two 1)) c, more_le t (neg (at two 0)) c, T.bound c));
+  }

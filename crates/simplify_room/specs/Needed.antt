@@ -1,5 +1,5 @@
 -- What the finished call needs: the words of its lines, and the entries of each row; told by the words as they came.
-use Rattle.std.specs.Prelude.{◌≡◌, Bool, cond, not, ◌&&◌, List, [], ◌∷◌, ℕ, ◌+◌, ◌*◌, ◌^◌, ◌≤◌, ◌<◌, length, eqb}
+use Rattle.std.specs.Prelude.{◌≡◌, Bool, cond, not, ◌&&◌, List, ℕ, ◌+◌, ◌*◌, ◌^◌, ◌≤◌, length, eqb}
 use Rattle.laws.specs.Lists.{at, more}
 use Rattle.kinds.specs.Clauses.{len_at, lits_at, deleted_at, neg}
 use Rattle.kinds.specs.Lent.{Lent, room_of}

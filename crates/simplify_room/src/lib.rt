@@ -1,7 +1,8 @@
 // Refusal 11 of `unit_simplify`: whether the finished call fits, found out before anything is written.
+// The store's buffers are slices beside the state, each a parameter: "a state by value, slices beside it" (docs/01-scope.md, What must change shape).
 #![tactic(auto)]
 
-ghost use Rattle.std.specs.Prelude.{◌≡◌, Bool, true, false, List, ℕ, ◌+◌, ◌*◌, ◌≤◌, ◌<◌, ◌^◌, length};
+ghost use Rattle.std.specs.Prelude.{◌≡◌, false, ℕ, ◌+◌, ◌*◌, ◌≤◌, ◌<◌, ◌^◌, length};
 ghost use Rattle.laws.specs.Fold.{all_below, sum_below, fold_below};
 ghost use Rattle.laws.specs.Lists.{at, more};
 ghost use Rattle.kinds.specs.Clauses.{len_at, lits_at, end_at, deleted_at, neg, var_of};
@@ -19,13 +20,11 @@ pub fn verdict_at(words: &[u32], offset: usize, values: &[u8]) -> Verdict
     requires by_index { (p : ℕ) → p < len_at words.now offset → var_of (at words.now (offset + 3 + p)) < length values.now }
     ensures { result ≡ verdict_of values.now (lits_at words.now offset) }
 {
-    let len = words[offset + 2] as usize;
-    let mut j = 0usize;
-    let mut kept = 0usize;
-    while j < len {
-        let value = kinds::lit_value(values, Lit(words[offset + 3 + j]));
+    let lits = alloc::lits(words, offset);
+    let mut kept = 0;
+    for &lit in lits {
+        let value = kinds::lit_value(values, Lit(lit));
         let LitValue::True = value else {
-            j += 1;
             let LitValue::Unassigned = value else {
                 continue;
             };
@@ -34,7 +33,7 @@ pub fn verdict_at(words: &[u32], offset: usize, values: &[u8]) -> Verdict
         };
         return Verdict::Satisfied;
     }
-    if kept == len {
+    if kept == lits.len() {
         return Verdict::Same;
     }
     Verdict::Shorter(kept)
@@ -57,11 +56,9 @@ pub fn long_words(words: &[u32], clauses: &[u32], n: usize, values: &[u8]) -> us
     requires by_index { (i : ℕ) → i < n → deleted_at words.now (at clauses.now i) ≡ false → (p : ℕ) → p < len_at words.now (at clauses.now i) → var_of (at words.now (at clauses.now i + 3 + p)) < length values.now }
     ensures { (result ≡ sum_below (clause_words values.now words.now clauses.now) n) × (result ≤ n * 2 ^ 34) }
 {
-    let mut i = 0usize;
-    let mut sum = 0usize;
-    while i < n {
-        let offset = clauses[i] as usize;
-        i += 1;
+    let mut sum = 0;
+    for &clause in &clauses[..n] {
+        let offset = clause as usize;
         if header::deleted_of(words[offset + 1]) {
             continue;
         }
@@ -91,8 +88,8 @@ pub fn tally_pair(tally: &mut [u32], a: u32, b: u32)
 {
     let not_a = Lit(a).negated().0 as usize;
     let not_b = Lit(b).negated().0 as usize;
-    tally[not_a] = tally[not_a] + 1;
-    tally[not_b] = tally[not_b] + 1;
+    tally[not_a] += 1;
+    tally[not_b] += 1;
 }
 
 // The entries that shortened clauses of the first n entries add to each row.
@@ -103,10 +100,8 @@ pub fn tally_pairs(words: &[u32], clauses: &[u32], n: usize, values: &[u8], tall
     requires by_index_2 { (c : ℕ) → at tally.old c ≤ 2 ^ 24 }
     ensures { tally.new ≡ fold_below (pair_tallied values.now words.now clauses.now) tally.old n }
 {
-    let mut i = 0usize;
-    while i < n {
-        let offset = clauses[i] as usize;
-        i += 1;
+    for &clause in &clauses[..n] {
+        let offset = clause as usize;
         if header::deleted_of(words[offset + 1]) {
             continue;
         }
@@ -116,9 +111,7 @@ pub fn tally_pairs(words: &[u32], clauses: &[u32], n: usize, values: &[u8], tall
         if m != 2 {
             continue;
         }
-        let two = two_left(words, offset, values);
-        let a = two[0];
-        let b = two[1];
+        let [a, b] = two_left(words, offset, values);
         tally_pair(tally, a, b);
     }
 }
@@ -128,15 +121,7 @@ pub fn all_within(list: &[u32], n: usize, m: usize) -> bool
     requires { n ≤ length list.now }
     ensures { result ≡ all_below (at_most_at m list.now) n }
 {
-    let mut i = 0usize;
-    while i < n {
-        let x = buffers::word(list, i);
-        if m < x {
-            return false;
-        }
-        i += 1;
-    }
-    true
+    list[..n].iter().all(|&x| x as usize <= m)
 }
 
 // Whether record and rows have room for the finished call: the lines of both halves, and for each row what stays plus what shortened clauses add.
@@ -153,15 +138,13 @@ pub fn has_room(
     ensures { result ≡ fit walk_parts (lent_walk s words.now clauses.now rows.now counts.now rec.now values.now)
         (simplified (view (lent_walk s words.now clauses.now rows.now counts.now rec.now values.now))) }
 {
-    let n = s.clauses;
-    let codes = counts.len();
     let room = rows.len() / (2 * s.vars);
     let mut tally = [0u32; 131072];
     let short = binary_clean::count_rows(rows, room, counts, values, &mut tally);
-    let long = long_words(words, clauses, n, values);
+    let long = long_words(words, clauses, s.clauses, values);
     if rec.len() < s.recorded + short + long {
         return false;
     }
-    tally_pairs(words, clauses, n, values, &mut tally);
-    all_within(&tally, codes, room)
+    tally_pairs(words, clauses, s.clauses, values, &mut tally);
+    all_within(&tally, counts.len(), room)
 }

@@ -1,20 +1,20 @@
 -- What the judging and the refusals 9 to 11 say of the clauses, the rows and the sizes: the facts that the two halves stand on. Assumes nothing.
-use mathlib.Core.Path.{◌≡◌, refl, sym, ap, ap₂, ◌∙◌, subst}
+use mathlib.Core.Path.{◌≡◌, refl, sym, ap, ◌∙◌, subst}
 use mathlib.Core.Bool.{Bool, true, false, cond, not, ◌&&◌, ◌||◌}
-use mathlib.Core.List.{List, [], ◌∷◌, ◌++◌}
-use Prim.Native.Nat.{ℕ, zero, suc, ◌+◌, ◌-◌, ◌*◌, ◌/◌, ◌%◌, ◌^◌, ◌≤◌, ◌<◌}
+use mathlib.Core.List.{List, [], ◌∷◌}
+use Prim.Native.Nat.{ℕ, ◌+◌, ◌*◌, ◌≤◌, ◌<◌}
 use native.Mathlib.Omega.{arith}
 use native.Mathlib.Nat.{mul-div-le}
 use lib.ListN.{length, take, drop}
 use lib.Seq.{length-take-le, get_or-take, get_or-drop}
-use lib.Dec.{eqb, ltb}
+use lib.Dec.{ltb}
 use borrow.Author.Tests.{ltb-false}
-use Rattle.laws.specs.Fold.{any_below, one, count_below, sum_below}
+use Rattle.laws.specs.Fold.{any_below, one}
 use Rattle.laws.specs.Lists.{at, list_at}
 use Rattle.laws.proofs.Entries.{none_at}
-use Rattle.kinds.specs.Clauses.{len_at, lits_at, end_at, deleted_at, neg, var_of}
+use Rattle.kinds.specs.Clauses.{lits_at, deleted_at, neg}
 use Rattle.kinds.specs.Lent.{Lent, room_of}
-use Rattle.kinds.specs.Held.{Held, is_true, is_open, is_false}
+use Rattle.kinds.specs.Held.{is_true, is_open}
 use Rattle.kinds.specs.Layout.{rows_of, view, side}
 use Rattle.kinds.proofs.RowLayout.{length_rows, row_at, at_lengths, lengths_rows}
 use Rattle.kinds.proofs.Layouts.{sized_of}

@@ -1,5 +1,5 @@
 -- What simplifying leaves as it was: the tier lists and the host's side. So the parts that it is about can be told alone. Assumes nothing.
-use mathlib.Core.Path.{◌≡◌, refl, sym, ap, ◌∙◌, subst}
+use mathlib.Core.Path.{◌≡◌, refl, ap, ◌∙◌, subst}
 use mathlib.Core.Bool.{Bool, true}
 use mathlib.Core.List.{List, [], ◌∷◌}
 use Prim.Native.Nat.{ℕ, zero, suc, ◌≤◌, ◌<◌}
@@ -9,7 +9,7 @@ use Rattle.laws.specs.Fold.{all_below}
 use Rattle.laws.specs.Lists.{list_at, take_each}
 use Rattle.laws.proofs.Folds.{and_both}
 use Rattle.kinds.specs.Lent.{Lent}
-use Rattle.kinds.specs.Held.{Held, Side}
+use Rattle.kinds.specs.Held.{Held}
 use Rattle.kinds.specs.Layout.{view, side}
 use Rattle.calls.specs.Simplifying.{binaries_cleaned, simplified}
 use Rattle.simplify_lines.specs.Walk.{longs_done, values_only}

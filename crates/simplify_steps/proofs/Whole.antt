@@ -1,42 +1,41 @@
 -- Cleaning, then the long clauses, on what is lent: the second half's ground, and what both come to. Assumes nothing.
 use mathlib.Core.Path.{◌≡◌, refl, sym, ap, ap₂, ◌∙◌, subst}
-use mathlib.Core.Bool.{Bool, true, false, cond, not, ◌&&◌, ◌||◌, true≢false}
+use mathlib.Core.Bool.{true, false, true≢false}
 use mathlib.Core.List.{List, [], ◌∷◌, ◌++◌}
-use Prim.Native.Nat.{ℕ, zero, suc, ◌+◌, ◌-◌, ◌*◌, ◌/◌, ◌^◌, ◌≤◌, ◌<◌}
+use Prim.Native.Nat.{ℕ, ◌+◌, ◌*◌, ◌/◌, ◌≤◌, ◌<◌}
 use native.Mathlib.Omega.{arith}
-use native.Mathlib.Nat.{suc-mul, le_trans, div-le_self}
-use lib.ListN.{length, take, drop, length-append, length-take}
+use native.Mathlib.Nat.{suc-mul}
+use lib.ListN.{length, take, length-append}
 use lib.Seq.{sets, length-sets, length-take-le}
 use lib.Dec.{leb}
 use borrow.Author.Tests.{le-leb}
 use Rattle.laws.specs.Fold.{all_below}
 use Rattle.laws.specs.Lists.{at, list_at, lengths, joined, fill, fill_each, take_each}
-use Rattle.laws.proofs.Folds.{and_both, and_left, and_right, all_same}
+use Rattle.laws.proofs.Folds.{and_both}
 use Rattle.laws.proofs.Fills.{fill_append, fill_same, fill_fill}
 use Rattle.kinds.specs.Lines.{flat}
-use Rattle.kinds.specs.Lent.{Lent, Host, lent, host_of, room_of}
+use Rattle.kinds.specs.Lent.{Lent, room_of}
 use Rattle.kinds.specs.Setters.{state_of, with_recorded, with_binary_count}
 use Rattle.kinds.specs.Held.{Held, Side}
-use Rattle.kinds.specs.Layout.{rows_of, fill_rows, view, side, lay, lay_state, lay_host, fit, fit_row, fit_tier, lent_then}
+use Rattle.kinds.specs.Layout.{rows_of, fill_rows, view, side, lay, lay_state, lay_host, fit, fit_row}
 use Rattle.kinds.specs.declared.State.{State}
 use Rattle.kinds.proofs.Layouts.{Sized, AllFit, Fitting, overlaid, view_lay, sized_of, all_fit_of, length_fill_rows}
 use Rattle.kinds.proofs.RowLayout.{Growing, length_lengths, at_lengths, lengths_rows, length_rows, rows_again}
 use Rattle.kinds.proofs.TierLayout.{Within, within_of, lengths_each, each_same}
 use Rattle.calls.specs.Call.{unit_simplify, parts, everything}
-use Rattle.calls.specs.Refusing.{own, lowest, check, unready, any_lacking}
+use Rattle.calls.specs.Refusing.{own, any_lacking}
 use Rattle.calls.specs.Simplifying.{rows_cleaned, rows_strikes, binaries_cleaned, simplified}
 use Rattle.calls.specs.Outcome.{judged, refused_for, has_room, step, own_number}
 use Rattle.calls.proofs.Laws.{not_refused, has_room_lem}
 use Rattle.calls.proofs.Given.{first_not, others_not}
 use Rattle.calls.proofs.Judged.{sizes_judged, vars_low, vars_high, words_sized_lem, clauses_sized, tier_sized_lem, rows_most, counts_long, record_sized_lem, host_sized_lem, words_fit, clauses_fit, row_fits, record_fits}
 use Rattle.simplify_lines.specs.Walk.{Walkable, walk_parts, lent_walk, longs_done, values_only}
-use Rattle.simplify_lines.proofs.Done.{Grows, state_last, state_zero, state_first, state_at}
 use Rattle.simplify_long.specs.Ready.{LongReady}
 use Rattle.simplify_long.proofs.Laid.{growing_of}
 use Rattle.simplify_room.proofs.Room.{cleaned_many, cleaned_rows}
 use Rattle.simplify_steps.proofs.Recast.{recast, simplified_long}
 use Rattle.simplify_steps.proofs.Parts.{all_yes, long_grows, done_walk, tiers_then, host_then}
-use Rattle.simplify_steps.proofs.Facts.{walk_of, square, within, rows_ready, walk_ready}
+use Rattle.simplify_steps.proofs.Facts.{walk_of, square, within, walk_ready}
 
 -- all entries of rows that fit
 joined_few : (m : ℕ) (rows : List (List ℕ)) → AllFit m rows → length (joined rows) ≤ length rows * m
@@ -250,15 +249,3 @@ module _ (k : Lent) (j : judged everything k ≡ 0) (o : own_number unit_simplif
             rec = rec_then i;
             host = record { values = ap (λ (x : Side). x.values) (sym (host_then k)) i; kinds = ap (λ (x : Side). x.kinds) (sym (host_then k)) i; reasons = ap (λ (x : Side). x.reasons) (sym (host_then k)) i; levels = ap (λ (x : Side). x.levels) (sym (host_then k)) i; trail = trail i; assigned = assigned i; level = ap (λ (x : Side). x.level) (sym (host_then k)) i };
           }
-
-    -- the same for a state by its equation
-    module _ {st' : State} (g : st' ≡ with_binary_count (entries / 2) (with_recorded recorded₁ k.state)) where
-      pub ready_at : LongReady (lent_walk st' k.words k.clauses rows₁ counts₁ rec₁ k.host.values)
-      ready_at = subst (λ (x : State). LongReady (lent_walk x k.words k.clauses rows₁ counts₁ rec₁ k.host.values)) (sym g) long_ready
-
-      pub laid_at : {r : State} {words' clauses' rows' counts' rec' : List ℕ}
-          → lent_walk r words' clauses' rows' counts' rec' k.host.values ≡ lay walk_parts (lent_walk st' k.words k.clauses rows₁ counts₁ rec₁ k.host.values) (longs_done (view (lent_walk st' k.words k.clauses rows₁ counts₁ rec₁ k.host.values)))
-          → length k.tiers ≡ 4 → length k.state.tiers ≡ 4
-          → ◌≡◌ {A = Lent} (record { state = r; words = words'; clauses = clauses'; tiers = k.tiers; rows = rows'; counts = counts'; rec = rec'; host = k.host }) (lay everything k (simplified (view k)))
-      laid_at {r} {words'} {clauses'} {rows'} {counts'} {rec'} f four lens =
-          whole_laid (subst (λ (x : State). lent_walk r words' clauses' rows' counts' rec' k.host.values ≡ lay walk_parts (lent_walk x k.words k.clauses rows₁ counts₁ rec₁ k.host.values) (longs_done (view (lent_walk x k.words k.clauses rows₁ counts₁ rec₁ k.host.values)))) g f) four lens

@@ -1,1 +1,1 @@
-pub mod Heaps
+pub mod Refs

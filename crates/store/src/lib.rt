@@ -1,4 +1,5 @@
 // The static library: every public call under a plain name, for a caller in C or Rust. The state goes by value, a slice as a pointer and a length, an answer as numbers.
+// Each buffer is a parameter of its own, as a caller in C passes it; so are a tier's number, a literal's code and an answer.
 #![tactic(auto)]
 
 ghost use Rattle.std.specs.Prelude.{◌≡◌, [], ℕ, ◌+◌, ◌*◌};
@@ -8,7 +9,7 @@ ghost use Rattle.calls.specs.Outcome.{done, start_done, nothing, fields};
 ghost use Rattle.store_kinds.specs.Heard.{heard, assessed_given, assessed_heard, fields_heard, part_given, part_heard, state_numbers};
 ghost use Rattle.laws.specs.Lists.{at};
 
-use kinds::{ClauseActivity, ClauseRef, Lit, State};
+use kinds::{ClauseActivity, ClauseRef, HostSide, Lit, State};
 use store_kinds::{
     AssessedNumbers, DecayNumbers, FieldNumbers, Part, PlaceNumbers, Reply, UnitsReply,
 };
@@ -34,7 +35,7 @@ pub extern "C" fn mihorempo_start(
     let reply = starting::start(
         s, vars, decay, words, clauses, irred, core, mid, local, rows, counts, rec,
     );
-    store_kinds::plain(reply)
+    store_kinds::plain(s, reply)
 }
 
 // The answer is the new clause's reference.
@@ -55,7 +56,7 @@ pub extern "C" fn mihorempo_add_clause(
         ≡ heard (done (add_clause tier glue lits.now) (lent_five s words.old clauses.old irred.old core.old mid.old local.old no_host)) }
 {
     let reply = db::add_clause(s, words, clauses, irred, core, mid, local, tier, glue, lits);
-    store_kinds::added(reply)
+    store_kinds::added(s, reply)
 }
 
 #[unsafe(no_mangle)]
@@ -84,7 +85,7 @@ pub extern "C" fn mihorempo_set_clause_tier(
         ClauseRef(cref),
         tier,
     );
-    store_kinds::plain(reply)
+    store_kinds::plain(s, reply)
 }
 
 // The answer is 1: "rebuild them".
@@ -119,16 +120,18 @@ pub extern "C" fn mihorempo_delete_clause(
         mid,
         local,
         rec,
-        values,
-        kinds,
-        reasons,
-        levels,
-        trail,
-        assigned,
-        level,
+        HostSide {
+            values,
+            kinds,
+            reasons,
+            levels,
+            trail,
+            assigned,
+            level,
+        },
         ClauseRef(cref),
     );
-    store_kinds::changed(reply)
+    store_kinds::changed(s, reply)
 }
 
 #[unsafe(no_mangle)]
@@ -142,7 +145,7 @@ pub extern "C" fn mihorempo_add_binary_clause(
         ≡ heard (done (add_binary lits.now) (lent_rows s rows.old counts.old)) }
 {
     let reply = binary_calls::add_binary_clause(s, rows, counts, lits);
-    store_kinds::plain(reply)
+    store_kinds::plain(s, reply)
 }
 
 // The implied literals of a literal: where they start in the rows, and how many they are.
@@ -201,7 +204,7 @@ pub extern "C" fn mihorempo_bump_clause(
         levels,
         ClauseRef(cref),
     );
-    store_kinds::plain(reply)
+    store_kinds::plain(s, reply)
 }
 
 #[unsafe(no_mangle)]
@@ -218,7 +221,7 @@ pub extern "C" fn mihorempo_decay(
         ≡ heard (done decay (lent_five s words.old clauses.old irred.now core.now mid.now local.now no_host)) }
 {
     let reply = activity_calls::decay(s, words, clauses, irred, core, mid, local);
-    store_kinds::plain(reply)
+    store_kinds::plain(s, reply)
 }
 
 #[unsafe(no_mangle)]
@@ -226,7 +229,7 @@ pub extern "C" fn mihorempo_set_decay(activity: ClauseActivity, decay: f32) -> D
     ensures { record { number = result.number; answer = nothing; then = lent_activity result.activity } ≡ done (set_decay decay) (lent_activity activity) }
 {
     let reply = activity::set_decay(activity, decay);
-    store_kinds::decay_set(reply)
+    store_kinds::decay_set(activity, reply)
 }
 
 // The answer is 1 where a clause was struck: "rebuild them".
@@ -252,10 +255,25 @@ pub extern "C" fn mihorempo_reduce_locals(
         ≡ heard (done reduce_locals (lent s words.old clauses.old irred.old core.old mid.old local.old [] [] rec.old (host_of values.now kinds.now reasons.now levels.now trail.now assigned level))) }
 {
     let reply = reduce_calls::reduce_locals(
-        s, words, clauses, irred, core, mid, local, rec, values, kinds, reasons, levels, trail,
-        assigned, level,
+        s,
+        words,
+        clauses,
+        irred,
+        core,
+        mid,
+        local,
+        rec,
+        HostSide {
+            values,
+            kinds,
+            reasons,
+            levels,
+            trail,
+            assigned,
+            level,
+        },
     );
-    store_kinds::changed(reply)
+    store_kinds::changed(s, reply)
 }
 
 #[unsafe(no_mangle)]
@@ -272,7 +290,7 @@ pub extern "C" fn mihorempo_reduce_mids(
         ≡ heard (done reduce_mids (lent_five s words.old clauses.old irred.old core.old mid.old local.old no_host)) }
 {
     let reply = reduce_calls::reduce_mids(s, words, clauses, irred, core, mid, local);
-    store_kinds::plain(reply)
+    store_kinds::plain(s, reply)
 }
 
 // The answer is 1 where a collection was due: "rebuild them".
@@ -300,7 +318,7 @@ pub extern "C" fn mihorempo_collect_garbage(
         s, words, clauses, irred, core, mid, local, values, kinds, reasons, levels, trail,
         assigned, level,
     );
-    store_kinds::changed(reply)
+    store_kinds::changed(s, reply)
 }
 
 // The answer is 1 for a new unit.
@@ -324,7 +342,7 @@ pub extern "C" fn mihorempo_prove_units(
     let reply = unit_simplify::prove_units(
         s, words, clauses, rec, values, kinds, reasons, levels, trail, assigned, level,
     );
-    store_kinds::proved(reply)
+    store_kinds::proved(s, assigned, reply)
 }
 
 // The answer is 1: "rebuild them".
@@ -352,10 +370,27 @@ pub extern "C" fn mihorempo_unit_simplify(
         ≡ heard (done unit_simplify (lent s words.old clauses.old irred.old core.old mid.old local.old rows.old counts.old rec.old (host_of values.now kinds.now reasons.now levels.now trail.now assigned level))) }
 {
     let reply = unit_simplify::unit_simplify(
-        s, words, clauses, irred, core, mid, local, rows, counts, rec, values, kinds, reasons,
-        levels, trail, assigned, level,
+        s,
+        words,
+        clauses,
+        irred,
+        core,
+        mid,
+        local,
+        rows,
+        counts,
+        rec,
+        HostSide {
+            values,
+            kinds,
+            reasons,
+            levels,
+            trail,
+            assigned,
+            level,
+        },
     );
-    store_kinds::changed(reply)
+    store_kinds::changed(s, reply)
 }
 
 #[unsafe(no_mangle)]
@@ -364,7 +399,7 @@ pub extern "C" fn mihorempo_empty_record(s: State, rec: &mut [u32]) -> Reply
         ≡ heard (done empty_record (lent_record s rec.old)) }
 {
     let reply = reading_calls::empty_record(s, rec);
-    store_kinds::plain(reply)
+    store_kinds::plain(s, reply)
 }
 
 #[unsafe(no_mangle)]

@@ -1,18 +1,15 @@
 // What passes to a caller in another language: structs of numbers beside the state, and what each enum answer becomes there.
+// The structs have a number beside a value because C does: an enum has no agreed layout there.
 #![tactic(auto)]
 
 ghost use Rattle.std.specs.Prelude.{◌≡◌};
-ghost use Rattle.laws.specs.Fold.{one};
 ghost use Rattle.laws.specs.Lists.{at};
-ghost use Rattle.kinds.specs.Numbers.{refusal_number, tier_number};
-ghost use Rattle.calls.specs.Answers.{plain_number, added_number, added_answer, changed_number, changed_answer, proved_number, proved_answer, assessed_number, assessed_answer, place_number, place_answer};
+ghost use Rattle.kinds.specs.Numbers.{refusal_number};
+ghost use Rattle.calls.specs.Answers.{number_of, added_answer, changed_answer, proved_answer, assessed_answer, place_number, place_answer, state_after, state_added, state_changed, state_proved, assigned_after, activity_after};
 ghost use Rattle.view.specs.Shown.{shown};
 ghost use Rattle.store_kinds.specs.Heard.{value, tier_said, glue_said, fields_heard, state_numbers};
 
-use kinds::{
-    Added, AddedReply, Assessed, Changed, ChangedReply, ClauseActivity, DecayReply, Place, Plain,
-    PlainReply, Proved, ProvedReply, Refusal, State, Tier,
-};
+use kinds::{Added, Assessed, Changed, ClauseActivity, Lit, Proved, Refusal, State};
 use view::HeaderFields;
 
 // The number of the table, 0 where the call was done; the answer as a number, 0 where it says nothing; the state.
@@ -81,186 +78,143 @@ pub struct PlaceNumbers {
     pub literal: u32,
 }
 
-// The table's number of a refusal.
-pub fn number_of(refusal: Refusal) -> u32
-    ensures { result ≡ refusal_number refusal }
-{
-    match refusal {
-        Refusal::Size => 1,
-        Refusal::Store => 2,
-        Refusal::Host => 3,
-        Refusal::Clause => 4,
-        Refusal::Tier => 5,
-        Refusal::Reference => 6,
-        Refusal::Original => 7,
-        Refusal::Asserting => 8,
-        Refusal::Level => 9,
-        Refusal::Open => 10,
-        Refusal::Room => 11,
-        Refusal::Decay => 12,
-    }
-}
+// ---- replies: s is the state before the call, which a refused one leaves
 
-fn bit(flag: bool) -> u32
-    ensures { result ≡ one flag }
+fn refused(s: State, refusal: Refusal) -> Reply
+    ensures { (result.number ≡ refusal_number refusal) × (result.answer ≡ 0) × (result.state ≡ s) }
 {
-    if flag {
-        return 1;
-    }
-    0
-}
-
-// The number beside a returned part.
-pub fn plain_number(answer: Plain) -> u32
-    ensures { result ≡ plain_number answer }
-{
-    match answer {
-        Plain::Done => 0,
-        Plain::Refused(refusal) => number_of(refusal),
-    }
-}
-
-pub fn plain(reply: PlainReply) -> Reply
-    ensures { (result.number ≡ plain_number reply.answer) × (result.answer ≡ 0) × (result.state ≡ reply.state) }
-{
-    let state = reply.state;
-    let answer = reply.answer;
-    let number = plain_number(answer);
+    let number = u32::from(refusal);
     Reply {
-        number: number,
+        number,
         answer: 0,
-        state: state,
+        state: s,
     }
 }
 
-pub fn added(reply: AddedReply) -> Reply
-    ensures { (result.number ≡ added_number reply.answer) × (result.answer ≡ value (added_answer reply.answer)) × (result.state ≡ reply.state) }
+pub fn plain(s: State, answer: Result<State, Refusal>) -> Reply
+    ensures { (result.number ≡ number_of answer) × (result.answer ≡ 0) × (result.state ≡ state_after s answer) }
 {
-    let state = reply.state;
-    let answer = reply.answer;
     match answer {
-        Added::At(cref) => Reply {
+        Ok(state) => Reply {
             number: 0,
-            answer: cref.0,
-            state: state,
-        },
-        Added::Refused(refusal) => Reply {
-            number: number_of(refusal),
             answer: 0,
-            state: state,
+            state,
         },
+        Err(refusal) => refused(s, refusal),
     }
 }
 
-pub fn changed(reply: ChangedReply) -> Reply
-    ensures { (result.number ≡ changed_number reply.answer) × (result.answer ≡ value (changed_answer reply.answer)) × (result.state ≡ reply.state) }
+pub fn added(s: State, answer: Result<Added, Refusal>) -> Reply
+    ensures { (result.number ≡ number_of answer) × (result.answer ≡ value (added_answer answer)) × (result.state ≡ state_added s answer) }
 {
-    let state = reply.state;
-    let answer = reply.answer;
     match answer {
-        Changed::Rebuild => Reply {
+        Ok(added) => Reply {
             number: 0,
-            answer: 1,
-            state: state,
+            answer: added.cref.0,
+            state: added.state,
         },
-        Changed::Keep => Reply {
-            number: 0,
-            answer: 0,
-            state: state,
-        },
-        Changed::Refused(refusal) => Reply {
-            number: number_of(refusal),
-            answer: 0,
-            state: state,
-        },
+        Err(refusal) => refused(s, refusal),
     }
 }
 
-pub fn proved(reply: ProvedReply) -> UnitsReply
-    ensures { (result.number ≡ proved_number reply.answer) × (result.answer ≡ value (proved_answer reply.answer)) × (result.state ≡ reply.state) × (result.assigned ≡ reply.assigned) }
+pub fn changed(s: State, answer: Result<Changed, Refusal>) -> Reply
+    ensures { (result.number ≡ number_of answer) × (result.answer ≡ value (changed_answer answer)) × (result.state ≡ state_changed s answer) }
 {
-    let state = reply.state;
-    let answer = reply.answer;
-    let assigned = reply.assigned;
     match answer {
-        Proved::NewUnit => UnitsReply {
+        Ok(changed) => Reply {
             number: 0,
-            answer: 1,
-            state: state,
-            assigned: assigned,
+            answer: changed.rebuild as u32,
+            state: changed.state,
         },
-        Proved::NoNewUnit => UnitsReply {
+        Err(refusal) => refused(s, refusal),
+    }
+}
+
+pub fn proved(s: State, assigned: usize, answer: Result<Proved, Refusal>) -> UnitsReply
+    ensures { (result.number ≡ number_of answer) × (result.answer ≡ value (proved_answer answer)) × (result.state ≡ state_proved s answer) × (result.assigned ≡ assigned_after assigned answer) }
+{
+    match answer {
+        Ok(proved) => UnitsReply {
             number: 0,
-            answer: 0,
-            state: state,
-            assigned: assigned,
+            answer: proved.new_unit as u32,
+            state: proved.state,
+            assigned: proved.assigned,
         },
-        Proved::Refused(refusal) => UnitsReply {
-            number: number_of(refusal),
+        Err(refusal) => UnitsReply {
+            number: u32::from(refusal),
             answer: 0,
-            state: state,
-            assigned: assigned,
+            state: s,
+            assigned,
         },
     }
 }
 
-pub fn assessed(answer: Assessed) -> AssessedNumbers
-    ensures { (result.number ≡ assessed_number answer) × (result.tier ≡ tier_said (assessed_answer answer)) × (result.glue ≡ glue_said (assessed_answer answer)) }
+pub fn assessed(answer: Result<Assessed, Refusal>) -> AssessedNumbers
+    ensures { (result.number ≡ number_of answer) × (result.tier ≡ tier_said (assessed_answer answer)) × (result.glue ≡ glue_said (assessed_answer answer)) }
 {
     match answer {
-        Assessed::As(tier, glue) => AssessedNumbers {
+        Ok(assessed) => AssessedNumbers {
             number: 0,
-            tier: tier.number(),
-            glue: glue,
+            tier: assessed.tier.number(),
+            glue: assessed.glue,
         },
-        Assessed::Refused(refusal) => AssessedNumbers {
-            number: number_of(refusal),
+        Err(refusal) => AssessedNumbers {
+            number: u32::from(refusal),
             tier: 0,
             glue: 0,
         },
     }
 }
 
-pub fn decay_set(reply: DecayReply) -> DecayNumbers
-    ensures { (result.number ≡ plain_number reply.answer) × (result.activity ≡ reply.activity) }
+pub fn decay_set(a: ClauseActivity, answer: Result<ClauseActivity, Refusal>) -> DecayNumbers
+    ensures { (result.number ≡ number_of answer) × (result.activity ≡ activity_after a answer) }
 {
-    let activity = reply.activity;
-    let answer = reply.answer;
-    let number = plain_number(answer);
-    DecayNumbers {
-        number: number,
-        activity: activity,
+    match answer {
+        Ok(activity) => DecayNumbers {
+            number: 0,
+            activity,
+        },
+        Err(refusal) => DecayNumbers {
+            number: u32::from(refusal),
+            activity: a,
+        },
+    }
+}
+
+// "A returned part is then empty"
+pub fn no_part(refusal: Refusal) -> Part
+    ensures { (result.number ≡ refusal_number refusal) × (result.start ≡ 0) × (result.len ≡ 0) }
+{
+    Part {
+        number: u32::from(refusal),
+        start: 0,
+        len: 0,
     }
 }
 
 pub fn fields_shown(f: HeaderFields) -> FieldNumbers
     ensures { fields_heard result ≡ shown f }
 {
-    let tier = f.tier;
-    let number = tier.number();
-    let deleted = bit(f.deleted);
-    let mark = bit(f.mark);
-    let active = bit(f.active);
     FieldNumbers {
         activity: f.activity,
-        tier: number,
-        deleted: deleted,
-        mark: mark,
+        tier: f.tier.number(),
+        deleted: f.deleted as u32,
+        mark: f.mark as u32,
         glue: f.glue,
-        active: active,
+        active: f.active as u32,
         len: f.len,
     }
 }
 
-pub fn place_shown(place: Place) -> PlaceNumbers
+pub fn place_shown(place: Option<Lit>) -> PlaceNumbers
     ensures { (result.number ≡ place_number place) × (result.literal ≡ value (place_answer place)) }
 {
     match place {
-        Place::Holds(lit) => PlaceNumbers {
+        Some(lit) => PlaceNumbers {
             number: 0,
             literal: lit.0,
         },
-        Place::Nothing => PlaceNumbers {
+        None => PlaceNumbers {
             number: 4,
             literal: 0,
         },
@@ -271,28 +225,23 @@ pub fn place_shown(place: Place) -> PlaceNumbers
 pub fn state_number(s: State, place: usize) -> usize
     ensures { result ≡ at (state_numbers s) place }
 {
-    let tiers = s.tiers;
-    let counts = s.counts;
-    let activity = s.activity;
-    let bump = activity::pattern(activity.bump);
-    let inverse = activity::pattern(activity.inv_decay);
     match place {
         0 => s.vars,
         1 => s.words,
         2 => s.clauses,
-        3 => tiers[0],
-        4 => tiers[1],
-        5 => tiers[2],
-        6 => tiers[3],
+        3 => s.tiers[0],
+        4 => s.tiers[1],
+        5 => s.tiers[2],
+        6 => s.tiers[3],
         7 => s.recorded,
-        8 => counts[0],
-        9 => counts[1],
-        10 => counts[2],
-        11 => counts[3],
+        8 => s.counts[0],
+        9 => s.counts[1],
+        10 => s.counts[2],
+        11 => s.counts[3],
         12 => s.garbage,
         13 => s.binary,
-        14 => bump as usize,
-        15 => inverse as usize,
+        14 => activity::pattern(s.activity.bump) as usize,
+        15 => activity::pattern(s.activity.inv_decay) as usize,
         _ => 0,
     }
 }

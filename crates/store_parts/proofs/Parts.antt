@@ -11,11 +11,13 @@ use Rattle.laws.proofs.Reading.{read_take}
 use Rattle.kinds.specs.Clauses.{lits_at, end_at, len_at, is_live}
 use Rattle.kinds.specs.Lent.{Lent, Parts, lent_words, lent_rows, no_host, room_of}
 use Rattle.kinds.specs.Layout.{rows_of}
+use Rattle.kinds.specs.Numbers.{refusal_number}
+use Rattle.kinds.specs.declared.Refusal.{Refusal}
 use Rattle.kinds.specs.declared.State.{State}
 use Rattle.kinds.proofs.RowLayout.{row_at}
 use Rattle.calls.specs.Call.{Command, literals, implied, parts, words_and_list, only_rows}
 use Rattle.calls.specs.Outcome.{Outcome, judged, part_of, done}
-use Rattle.replies.proofs.Ways.{judged_most, judge_way, judge_part}
+use Rattle.replies.proofs.Ways.{refusal_given, judge_number_told, judge_part}
 use Rattle.binary.proofs.Pairs.{row_fits}
 use Rattle.binary_calls.proofs.Rows.{RowsReady}
 use Rattle.binary_calls.proofs.Reading as rows-law
@@ -27,13 +29,9 @@ use Rattle.store_kinds.proofs.Told.{parting, part_refused, part_given_lem}
 taken : (buf : List ℕ) (start len : ℕ) → start + len ≤ length buf → length (take len (drop start buf)) ≡ len
 taken buf start len h = length-take-le len (drop start buf) (let e = length-drop start buf in omega arith)
 
--- what the judging gave, not 0
-module _ (c : Command) (p : Parts) (lends : parts c ≡ p) (k : Lent) (n : ℕ) (e : n ≡ judged p k) where
-  pub judged_few : n ≤ 3
-  judged_few = subst (λ (x : ℕ). x ≤ 3) (sym e) (judged_most p k)
-
-  pub part_judged : (buf : List ℕ) (place : ℕ) → (n ≡ 0 → ⊥) → parting n 0 0 [] ≡ part_heard place (done c k)
-  part_judged buf place h = part_refused buf place (done c k) h (sym (ap (λ (o : Outcome). o.number) (judge_way c p lends k n e h))) (judge_part c p lends k n e h)
+-- the judging refused; m is the number that is told
+pub part_judged : (c : Command) (k : Lent) (r : Refusal) → refusal_number r ≡ judged (parts c) k → (buf : List ℕ) (place : ℕ) {m : ℕ} → m ≡ refusal_number r → parting m 0 0 [] ≡ part_heard place (done c k)
+part_judged c k r e buf place {m} q = ap (λ (x : ℕ). parting x 0 0 []) q ∙ part_refused buf place (done c k) (refusal_given r) (judge_number_told c k r e) (judge_part c k r e)
 
 -- ---- implied literals
 module _ (s : State) (rows counts : List ℕ) (l : ℕ) (n : ℕ) (e : n ≡ judged only_rows (lent_rows s rows counts)) (z : n ≡ 0) where

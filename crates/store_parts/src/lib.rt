@@ -7,37 +7,26 @@ ghost use Rattle.calls.specs.Call.{implied, literals};
 ghost use Rattle.calls.specs.Outcome.{done};
 ghost use Rattle.store_kinds.specs.Heard.{part_given, part_heard};
 
-use kinds::{ClauseRef, Lit, State};
-use store_kinds::Part;
+use kinds::{ClauseRef, Lit, Refusal, State};
+use store_kinds::{Part, no_part};
 
 // `binary_calls::implied` and `implied_number`: "The implied literals of a literal are returned as that row's filled part."
 pub fn implied(s: State, rows: &[u32], counts: &[u32], lit: Lit) -> Part
     ensures { part_given rows.now result
         ≡ part_heard (lit.0 * room_of s.vars rows.now) (done (implied lit.0) (lent_rows s rows.now counts.now)) }
 {
-    let judging = judge::judge_rows(s, rows, counts);
-    if judging != 0 {
-        return Part {
-            number: judging as u32,
-            start: 0,
-            len: 0,
-        };
+    if let Err(refusal) = judge::judge_rows(s, rows, counts) {
+        return no_part(refusal);
     }
-    let vars = s.vars;
     let code = lit.0 as usize;
-    if 2 * vars <= code {
-        return Part {
-            number: 4,
-            start: 0,
-            len: 0,
-        };
+    if 2 * s.vars <= code {
+        return no_part(Refusal::Clause);
     }
-    let room = rows.len() / (2 * vars);
-    let len = buffers::word(counts, code);
+    let room = rows.len() / (2 * s.vars);
     Part {
         number: 0,
         start: code * room,
-        len: len,
+        len: buffers::word(counts, code),
     }
 }
 
@@ -46,28 +35,16 @@ pub fn clause_lits(s: State, words: &[u32], clauses: &[u32], cref: ClauseRef) ->
     ensures { part_given words.now result
         ≡ part_heard (cref.0 + 3) (done (literals cref.0) (lent_words s words.now clauses.now [] no_host)) }
 {
-    let judging = judge::judge_list(s, words, clauses);
-    if judging != 0 {
-        return Part {
-            number: judging as u32,
-            start: 0,
-            len: 0,
-        };
+    if let Err(refusal) = judge::judge_list(s, words, clauses) {
+        return no_part(refusal);
     }
     let offset = cref.0 as usize;
-    let used = s.words;
-    let n = s.clauses;
-    if !judge_words::is_live(words, used, clauses, n, offset) {
-        return Part {
-            number: 6,
-            start: 0,
-            len: 0,
-        };
+    if !judge_words::is_live(words, s.words, clauses, s.clauses, offset) {
+        return no_part(Refusal::Reference);
     }
-    let len = buffers::word(words, offset + 2);
     Part {
         number: 0,
         start: offset + 3,
-        len: len,
+        len: buffers::word(words, offset + 2),
     }
 }

@@ -1,11 +1,11 @@
 -- One entry more, tier by tier. Assumes nothing.
-use mathlib.Core.Path.{◌≡◌, refl, sym, ap, ◌∙◌, subst}
+use mathlib.Core.Path.{◌≡◌, ◌∙◌}
 use mathlib.Core.List.{List, [], ◌∷◌}
-use Prim.Native.Nat.{ℕ, suc, ◌≤◌, ◌<◌}
+use Prim.Native.Nat.{ℕ, ◌≤◌, ◌<◌}
 use native.Mathlib.Omega.{arith}
 use lib.ListN.{length, set}
 use Rattle.laws.specs.Lists.{at, list_at, push, more, lengths, take_each, fill_each}
-use Rattle.kinds.proofs.TierLayout.{Within, each_push, lengths_each_push, within_of}
+use Rattle.kinds.proofs.TierLayout.{Within, each_push, lengths_each_push}
 use Rattle.tier_lists.specs.Four.{four}
 
 within : (ns a b c d : List ℕ) → length ns ≡ 4 → (at ns 0 ≤ length a) × (at ns 1 ≤ length b) × (at ns 2 ≤ length c) × (at ns 3 ≤ length d) → Within ns (four a b c d)
@@ -24,35 +24,3 @@ module _ (ns a b c d : List ℕ) (t x : ℕ) (bs : List (List ℕ)) (e : length 
   pushed =
       let w = within ns a b c d e (h.1, h.2, h.3, h.4) in
       (now ∙ each_push ns (four a b c d) t x w h.0 room, lengths_each_push ns (four a b c d) t x w)
-
--- the list of a tier by its number
-module _ (a b c d : List ℕ) (t : ℕ) where
-  pub in_irred : t ≡ 0 → list_at (four a b c d) t ≡ a
-  in_irred e = rw e
-
-  pub in_core : t ≡ 1 → list_at (four a b c d) t ≡ b
-  in_core e = rw e
-
-  pub in_mid : t ≡ 2 → list_at (four a b c d) t ≡ c
-  in_mid e = rw e
-
-  pub in_local : t < 4 → (t ≡ 0 → ⊥) → (t ≡ 1 → ⊥) → (t ≡ 2 → ⊥) → list_at (four a b c d) t ≡ d
-  in_local h p q r = let e : t ≡ 3 = omega arith in rw e
-
--- a write to one of them
-module _ (a b c d : List ℕ) (t n x : ℕ) where
-  pub written_irred : t ≡ 0 → four (set a n x) b c d ≡ set (four a b c d) t (set (list_at (four a b c d) t) n x)
-  written_irred e = rw e
-
-  pub written_core : t ≡ 1 → four a (set b n x) c d ≡ set (four a b c d) t (set (list_at (four a b c d) t) n x)
-  written_core e = rw e
-
-  pub written_mid : t ≡ 2 → four a b (set c n x) d ≡ set (four a b c d) t (set (list_at (four a b c d) t) n x)
-  written_mid e = rw e
-
-  pub written_local : t < 4 → (t ≡ 0 → ⊥) → (t ≡ 1 → ⊥) → (t ≡ 2 → ⊥) → four a b c (set d n x) ≡ set (four a b c d) t (set (list_at (four a b c d) t) n x)
-  written_local h p q r = let e : t ≡ 3 = omega arith in rw e
-
--- a number for each tier
-pub fourth : (a b c d t : ℕ) → t < 4 → (t ≡ 0 → ⊥) → (t ≡ 1 → ⊥) → (t ≡ 2 → ⊥) → d ≡ at (a ∷ b ∷ c ∷ d ∷ []) t
-fourth a b c d t h p q r = let e : t ≡ 3 = omega arith in rw e

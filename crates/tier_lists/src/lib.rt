@@ -10,16 +10,7 @@ pub fn room(irred: usize, core: usize, mid: usize, local: usize, tier: usize) ->
     requires { tier < 4 }
     ensures { result ≡ at (irred ∷ core ∷ mid ∷ local ∷ []) tier }
 {
-    if tier == 0 {
-        return irred;
-    }
-    if tier == 1 {
-        return core;
-    }
-    if tier == 2 {
-        return mid;
-    }
-    local
+    [irred, core, mid, local][tier]
 }
 
 // x behind the used part of a tier's list. Returns the used lengths. The caller has tested the room.
@@ -39,23 +30,13 @@ pub fn push(
         × (result ≡ lengths (push tier x (take_each used (four irred.old core.old mid.old local.old)))) }
 {
     let mut lens = used;
-    let n = used[tier];
-    if tier == 0 {
-        irred[n] = x;
-        lens[tier] = n + 1;
-        return lens;
+    let n = lens[tier];
+    match tier {
+        0 => irred[n] = x,
+        1 => core[n] = x,
+        2 => mid[n] = x,
+        _ => local[n] = x,
     }
-    if tier == 1 {
-        core[n] = x;
-        lens[tier] = n + 1;
-        return lens;
-    }
-    if tier == 2 {
-        mid[n] = x;
-        lens[tier] = n + 1;
-        return lens;
-    }
-    local[n] = x;
-    lens[tier] = n + 1;
+    lens[tier] += 1;
     lens
 }

@@ -10,12 +10,11 @@ use Rattle.kinds.specs.Floats.{unity}
 use Rattle.kinds.specs.Lent.{Lent, lent_activity}
 use Rattle.kinds.specs.Numbers.{tier_number}
 use Rattle.kinds.specs.Setters.{activity_of}
+use Rattle.std.specs.Prelude.{Option, Some, None}
 use Rattle.kinds.specs.declared.Lit.{Lit}
-use Rattle.kinds.specs.declared.Place.{Place}
-use Rattle.kinds.specs.declared.Place.TheVariants.{Holds, Nothing}
 use Rattle.kinds.specs.declared.Tier.{Tier}
 use Rattle.kinds.specs.declared.Tier.TheVariants.{Irred, Core, Mid, Local}
-use Rattle.calls.specs.Viewing.{Fields, fields_of}
+use Rattle.calls.specs.Viewing.{Fields}
 use Rattle.calls.specs.Outcome.{Outcome, Answer, nothing, reference, rebuild, proved, assessed, part, fields, literal}
 use Rattle.view.specs.Shown.{shown, fields_from}
 use Rattle.view.specs.declared.HeaderFields.{HeaderFields}
@@ -68,15 +67,15 @@ one_fields ws r s p q =
     let active : r.active ≡ s.active = sym (one_back r.active) ∙ ap (λ (f : Fields). eqb f.active 1) e ∙ one_back s.active in
     λ i. record { activity = (e i).activity; tier = tiers i; deleted = deleted i; mark = marks i; glue = (e i).glue; active = active i; len = (e i).len }
 
-pub one_place : (ws : List ℕ) (i : ℕ) (r s : Place) → ShowsPlace ws i r → ShowsPlace ws i s → r ≡ s
-one_place ws i (Holds a) (Holds b) p q =
+pub one_place : (ws : List ℕ) (i : ℕ) (r s : Option Lit) → ShowsPlace ws i r → ShowsPlace ws i s → r ≡ s
+one_place ws i (Some a) (Some b) p q =
     let e : a.0 ≡ b.0 = ap (λ (o : Outcome). literal_in o.answer) (p alone ∙ sym (q alone)) in
     let same : a ≡ b = λ j. record { 0 = e j } in
-    ap Holds same
-one_place ws i (Holds a) Nothing p q =
+    ap Some same
+one_place ws i (Some a) None p q =
     let e : ◌≡◌ {A = ℕ} 0 4 = ap (λ (o : Outcome). o.number) (p alone ∙ sym (q alone)) in
     absurd (omega arith)
-one_place ws i Nothing (Holds b) p q =
+one_place ws i None (Some b) p q =
     let e : ◌≡◌ {A = ℕ} 4 0 = ap (λ (o : Outcome). o.number) (p alone ∙ sym (q alone)) in
     absurd (omega arith)
-one_place ws i Nothing Nothing p q = refl
+one_place ws i None None p q = refl

@@ -2,29 +2,25 @@
 use mathlib.Core.Path.{◌≡◌, refl, sym, ap, ◌∙◌}
 use mathlib.Core.Bool.{Bool, true, false, cond, not, ◌&&◌}
 use mathlib.Core.List.{List}
-use Prim.Native.Nat.{ℕ, zero, suc, ◌+◌, ◌-◌, ◌<◌, ◌≤◌}
+use Prim.Native.Nat.{ℕ, ◌+◌, ◌-◌, ◌<◌, ◌≤◌}
 use native.Mathlib.Omega.{arith}
-use lib.Dec.{eqb, leb, ltb}
+use lib.Dec.{ltb}
 use lib.ListN.{length}
 use borrow.Author.Tests.{lt-ltb, le-ltb, le-leb, lt-leb}
-use Rattle.laws.specs.Fold.{one}
 use Rattle.laws.specs.Lists.{at}
-use Rattle.kinds.specs.Header.{field, tier_of, deleted_of, mark_of, glue_of, active_of}
-use Rattle.kinds.specs.Numbers.{tier_number}
-use Rattle.kinds.specs.declared.Place.{Place}
-use Rattle.kinds.specs.declared.Tier.{Tier}
+use Rattle.std.specs.Prelude.{Option}
+use Rattle.kinds.specs.declared.Lit.{Lit}
 use Rattle.kinds.specs.Lent.{Lent}
 use Rattle.kinds.specs.Layout.{view, side, lay, lay_state, lay_host, fit}
-use Rattle.calls.specs.Call.{Command, view_fields, view_literal, parts}
+use Rattle.calls.specs.Call.{view_fields, view_literal, parts}
 use Rattle.calls.specs.Size.{sizes_ok}
 use Rattle.calls.specs.StorePasses.{store_passes}
 use Rattle.calls.specs.HostPasses.{host_passes}
 use Rattle.calls.specs.Refusing.{lowest, own}
 use Rattle.calls.specs.Viewing.{Fields, header_word, fields_of, has_literal, literal_at}
-use Rattle.calls.specs.Outcome.{judged, refused_for, has_room, step, answer, done, refused, accepted, nothing, fields, literal}
+use Rattle.calls.specs.Outcome.{judged, refused_for, has_room, step, answer, done, refused, accepted, fields, literal}
 use Rattle.calls.specs.Answers.{place_number, place_answer}
 use Rattle.calls.proofs.Laws.{own_refuses, accepts}
-use Rattle.header.proofs.Laws.{field_lt}
 use Rattle.view.specs.Shown.{shown, fields_from}
 use Rattle.view.specs.declared.HeaderFields.{HeaderFields}
 
@@ -32,23 +28,8 @@ use Rattle.view.specs.declared.HeaderFields.{HeaderFields}
 abbrev pub ShowsFields : List ℕ → HeaderFields → Type 0
 ShowsFields ws r = (k : Lent) → record { number = 0; answer = fields (shown r); then = k } ≡ done (view_fields ws) k
 
-abbrev pub ShowsPlace : List ℕ → ℕ → Place → Type 0
+abbrev pub ShowsPlace : List ℕ → ℕ → Option Lit → Type 0
 ShowsPlace ws i r = (k : Lent) → record { number = place_number r; answer = place_answer r; then = k } ≡ done (view_literal ws i) k
-
--- a field of one digit
-one_of : (n : ℕ) → n < 2 → one (eqb n 1) ≡ n
-one_of zero g = refl
-one_of (suc zero) g = refl
-one_of (suc (suc n)) g = absurd (omega arith)
-
-flag_one : (b : Bool) (k w : ℕ) → b ≡ eqb (field k 1 w) 1 → one b ≡ field k 1 w
-flag_one b k w e = ap one e ∙ one_of (field k 1 w) (field_lt k 1 w)
-
--- the fields as the header's functions read them
-pub read_fields : (tier : Tier) (deleted mark active : Bool) (activity w len t g : ℕ) → t ≡ tier_of w → tier_number tier ≡ t → deleted ≡ eqb (deleted_of w) 1 → mark ≡ eqb (mark_of w) 1 → g ≡ glue_of w → active ≡ eqb (active_of w) 1
-    → shown (record { activity = activity; tier = tier; deleted = deleted; mark = mark; glue = g; active = active; len = len }) ≡ fields_from activity w len
-read_fields tier deleted mark active activity w len t g e₀ e₁ e₂ e₃ e₄ e₅ =
-    λ i. record { activity = activity; tier = (e₁ ∙ e₀) i; deleted = flag_one deleted 2 w e₂ i; mark = flag_one mark 3 w e₃ i; glue = e₄ i; active = flag_one active 10 w e₅ i; len = len }
 
 -- ---- fields
 

@@ -8,7 +8,7 @@ ghost use Rattle.calls.specs.Outcome.{done, fields};
 ghost use Rattle.calls.specs.Answers.{place_number, place_answer};
 ghost use Rattle.view.specs.Shown.{shown, fields_from};
 
-use kinds::{Lit, Place, Tier};
+use kinds::{Lit, Tier};
 
 // The header fields of a clause. The activity goes as its bits, since a slice may hold any.
 #[derive(Clone, Copy)]
@@ -27,20 +27,14 @@ pub struct HeaderFields {
 fn fields_from(activity: u32, word: u32, len: u32) -> HeaderFields
     ensures { shown result ≡ fields_from activity word len }
 {
-    let number = header::tier_of(word);
-    let tier = kinds::tier_from(number);
-    let deleted = header::deleted_of(word);
-    let mark = header::mark_of(word);
-    let glue = header::glue_of(word);
-    let active = header::active_of(word);
     HeaderFields {
-        activity: activity,
-        tier: tier,
-        deleted: deleted,
-        mark: mark,
-        glue: glue,
-        active: active,
-        len: len,
+        activity,
+        tier: kinds::tier_from(header::tier_of(word)),
+        deleted: header::deleted_of(word),
+        mark: header::mark_of(word),
+        glue: header::glue_of(word),
+        active: header::active_of(word),
+        len,
     }
 }
 
@@ -55,22 +49,21 @@ pub fn fields_at(words: &[u32]) -> HeaderFields
 }
 
 // "a place has a literal if it is below the length word and word 3 + place is in the slice"
-pub fn literal_at(words: &[u32], place: usize) -> Place
+pub fn literal_at(words: &[u32], place: usize) -> Option<Lit>
     ensures { (k : Lent) → record { number = place_number result; answer = place_answer result; then = k } ≡ done (view_literal words.now place) k }
 {
     let n = words.len();
     if n < 3 {
-        return Place::Nothing;
+        return None;
     }
     let len = buffers::word(words, 2);
     if place >= len {
-        return Place::Nothing;
+        return None;
     }
     if place >= n - 3 {
-        return Place::Nothing;
+        return None;
     }
-    let code = words[3 + place];
-    Place::Holds(Lit(code))
+    Some(Lit(words[3 + place]))
 }
 
 // ---- the view: "a struct holding the slice, thin, after the core"
@@ -99,7 +92,7 @@ pub fn fields<'a>(clause: Clause<'a>) -> HeaderFields
     fields_at(clause.words)
 }
 
-pub fn literal<'a>(clause: Clause<'a>, place: usize) -> Place
+pub fn literal<'a>(clause: Clause<'a>, place: usize) -> Option<Lit>
     ensures { (k : Lent) → record { number = place_number result; answer = place_answer result; then = k } ≡ done (view_literal clause.entry.words.now place) k }
 {
     literal_at(clause.words, place)
@@ -113,7 +106,7 @@ pub fn view_fields(words: &[u32]) -> HeaderFields
     fields(view(words))
 }
 
-pub fn view_literal(words: &[u32], place: usize) -> Place
+pub fn view_literal(words: &[u32], place: usize) -> Option<Lit>
     ensures { (k : Lent) → record { number = place_number result; answer = place_answer result; then = k } ≡ done (view_literal words.now place) k }
 {
     literal(view(words), place)

@@ -1,166 +1,99 @@
 // A line is carried out on the walk's buffers, and what it prints is laid on a page.
 #![tactic(auto)]
 
-use walk_kinds::Walk;
+use kinds::Refusal;
+use walk_kinds::{Buffers, Said, Walk};
 use walk_lines::Line;
-use walk_said::Printed;
+use walk_text::Page;
 
-// The lines that print more than an answer.
-fn paging(
-    walk: Walk,
-    line: Line,
-    words: &[u32; 16384],
-    clauses: &[u32; 4096],
-    irred: &[u32; 4096],
-    core: &[u32; 4096],
-    mid: &[u32; 4096],
-    local: &[u32; 4096],
-    rows: &[u32; 16384],
-    counts: &[u32; 2048],
-    rec: &[u32; 16384],
-    values: &[u8; 1024],
-    kinds: &[u8; 1024],
-    reasons: &[u32; 1024],
-    levels: &[u32; 1024],
-    trail: &[u32; 1024],
-    out: &mut [u8; 1048576],
-) -> Printed {
-    match line {
-        Line::Implied(lit) => walk_said::page(
-            walk,
-            walk_pages::implied(walk, rows, counts, out, lit),
-        ),
-        Line::Literals(cref) => walk_said::page(
-            walk,
-            walk_pages::literals(walk, words, clauses, out, cref),
-        ),
-        Line::View(from, end) => walk_said::page(
-            walk,
-            walk_pages::view(walk, words, out, from, end),
-        ),
-        Line::Show => walk_said::page(walk, walk_pages::show(walk, rec, out)),
-        Line::Dump => walk_said::page(
-            walk,
-            walk_pages::dump(
-                walk, words, clauses, irred, core, mid, local, rows, counts, rec, values, kinds,
-                reasons, levels, trail, out,
-            ),
-        ),
-        Line::Tails => walk_said::page(
-            walk,
-            walk_pages::tails(
-                walk, words, clauses, irred, core, mid, local, rows, counts, rec, trail, out,
-            ),
-        ),
-        _ => walk_said::nothing(walk),
-    }
+// `op=start`, and the host's side with it.
+fn start(walk: &mut Walk, buffers: &mut Buffers, vars: usize) -> Result<Said, Refusal> {
+    let lent = buffers.lend(walk.rooms, vars);
+    let said = walk_calls::start(walk, lent, vars)?;
+    walk_host::begin(walk, buffers);
+    Ok(said)
 }
 
-// Which of the groups above a line is of.
-fn group_of(line: Line) -> u32 {
-    match line {
-        Line::Unreadable => 0,
-        Line::Start(_) => 1,
-        Line::Poke(_, _, _) => 2,
-        Line::Long(_, _, _) | Line::Tier(_, _) | Line::Bump(_) | Line::Decay | Line::Mids => 3,
-        Line::Binary(_) | Line::Empty | Line::Assess(_) => 4,
-        Line::Delete(_) | Line::Locals | Line::Collect | Line::Units | Line::Simplify => 5,
-        Line::Implied(_)
-        | Line::Literals(_)
-        | Line::View(_, _)
-        | Line::Show
-        | Line::Dump
-        | Line::Tails => 6,
-        _ => 7,
-    }
+// The numbers of a list, which stand from a place on up to another.
+fn list(numbers: &[u32; 2048], from: usize, to: usize) -> &[u32] {
+    let to = to.min(2048);
+    &numbers[from.min(to)..to]
 }
 
-// A line that was read is carried out. The page is filled from its start.
-pub fn carry_out(
-    walk: Walk,
+// A line that was read is carried out.
+fn carry_out(
+    walk: &mut Walk,
     line: Line,
     numbers: &[u32; 2048],
-    words: &mut [u32; 16384],
-    clauses: &mut [u32; 4096],
-    irred: &mut [u32; 4096],
-    core: &mut [u32; 4096],
-    mid: &mut [u32; 4096],
-    local: &mut [u32; 4096],
-    rows: &mut [u32; 16384],
-    counts: &mut [u32; 2048],
-    rec: &mut [u32; 16384],
-    values: &mut [u8; 1024],
-    kinds: &mut [u8; 1024],
-    reasons: &mut [u32; 1024],
-    levels: &mut [u32; 1024],
-    trail: &mut [u32; 1024],
-    out: &mut [u8; 1048576],
-) -> Printed {
-    let group = group_of(line);
-    if group == 3 {
-        return walk_changing::adding(
-            walk, line, words, clauses, irred, core, mid, local, numbers, levels, out,
-        );
-    }
-    if group == 4 {
-        return walk_changing::small(walk, line, rows, counts, rec, levels, numbers, out);
-    }
-    if group == 5 {
-        return walk_changing::cleaning(
-            walk, line, words, clauses, irred, core, mid, local, rows, counts, rec, values, kinds,
-            reasons, levels, trail, out,
-        );
-    }
-    if group == 6 {
-        return paging(
-            walk, line, words, clauses, irred, core, mid, local, rows, counts, rec, values, kinds,
-            reasons, levels, trail, out,
-        );
-    }
-    if group == 7 {
-        return walk_hosting::hosting(walk, line, values, kinds, reasons, levels, trail, out);
-    }
-    match line {
-        Line::Start(vars) => walk_hosting::starting(
-            walk, words, clauses, irred, core, mid, local, rows, counts, rec, values, kinds,
-            reasons, levels, trail, out, vars,
-        ),
-        Line::Poke(buffer, at, value) => walk_said::said(
-            walk_hosting::poked(
-                walk, words, clauses, irred, core, mid, local, rows, counts, rec, values, kinds,
-                reasons, levels, trail, buffer, at, value,
+    buffers: &mut Buffers,
+    page: &mut Page,
+) {
+    let mut lent = buffers.lend(walk.rooms, walk.state.vars);
+    let (op, answer): (&[u8], Result<Said, Refusal>) = match line {
+        Line::Unreadable => return walk_show::unreadable(page),
+        Line::Implied(lit) => return walk_show::implied(page, walk.state, &lent, lit),
+        Line::Literals(cref) => return walk_show::literals(page, walk.state, &lent, cref),
+        Line::View(from, end) => {
+            return walk_show::view(page, lent.words, from as usize, end as usize);
+        }
+        Line::Show => return walk_show::show(page, walk.state, lent.rec),
+        Line::Dump => return walk_show::dump(page, walk, &lent),
+        Line::Tails => return walk_show::tails(page, walk, &lent),
+        Line::Start(vars) => (b"start", start(walk, buffers, vars as usize)),
+        Line::Long(tier, glue, n) => (
+            b"long",
+            walk_calls::long(
+                walk,
+                lent,
+                tier as usize,
+                glue as usize,
+                list(numbers, 2, n),
             ),
-            b"poke",
-            out,
         ),
-        _ => walk_said::page(walk, walk_show::answer(out, 0, b"none", 99)),
-    }
+        Line::Binary(n) => (
+            b"binary",
+            walk_calls::binary(walk, lent, list(numbers, 0, n)),
+        ),
+        Line::Tier(cref, tier) => (b"tier", walk_calls::tier(walk, lent, cref, tier as usize)),
+        Line::Delete(cref) => (b"delete", walk_calls::delete(walk, lent, cref)),
+        Line::Bump(cref) => (b"bump", walk_calls::bump(walk, lent, cref)),
+        Line::Decay => (b"decay", walk_calls::decay(walk, lent)),
+        Line::Locals => (b"locals", walk_calls::locals(walk, lent)),
+        Line::Mids => (b"mids", walk_calls::mids(walk, lent)),
+        Line::Collect => (b"collect", walk_calls::collect(walk, lent)),
+        Line::Units => (b"units", walk_calls::units(walk, lent)),
+        Line::Simplify => (b"simplify", walk_calls::simplify(walk, lent)),
+        Line::Empty => (b"empty", walk_calls::empty(walk, lent)),
+        Line::Assess(n) => (
+            b"assess",
+            walk_calls::assess(walk, lent, list(numbers, 0, n)),
+        ),
+        Line::Room(rooms) => (b"room", walk_host::room(walk, rooms)),
+        Line::Unit(lit) => (b"unit", walk_host::unit(walk, &mut lent, lit)),
+        Line::Assign(lit, kind, value, level) => (
+            b"assign",
+            walk_host::assign(walk, &mut lent, lit, kind, value, level),
+        ),
+        Line::Undo => (b"undo", walk_host::undo(walk, &mut lent)),
+        Line::Level(level) => (b"level", walk_host::level(walk, level)),
+        Line::Depth(var, level) => (b"depth", walk_host::depth(walk, &mut lent, var, level)),
+        Line::Poke(buffer, at, value) => (
+            b"poke",
+            walk_host::poke(walk, &mut lent, buffer, at, value),
+        ),
+        Line::Answers(on) => (b"answers", walk_host::answers(walk, on)),
+    };
+    walk_show::answer(page, op, answer, walk.answers);
 }
 
-// A line of bytes, whatever they are, is read and carried out. The page is filled from its start.
+// A line of bytes, whatever they are, is read and carried out.
 pub fn walk_line(
-    walk: Walk,
+    walk: &mut Walk,
     text: &[u8],
     numbers: &mut [u32; 2048],
-    words: &mut [u32; 16384],
-    clauses: &mut [u32; 4096],
-    irred: &mut [u32; 4096],
-    core: &mut [u32; 4096],
-    mid: &mut [u32; 4096],
-    local: &mut [u32; 4096],
-    rows: &mut [u32; 16384],
-    counts: &mut [u32; 2048],
-    rec: &mut [u32; 16384],
-    values: &mut [u8; 1024],
-    kinds: &mut [u8; 1024],
-    reasons: &mut [u32; 1024],
-    levels: &mut [u32; 1024],
-    trail: &mut [u32; 1024],
-    out: &mut [u8; 1048576],
-) -> Printed {
+    buffers: &mut Buffers,
+    page: &mut Page,
+) {
     let line = walk_lines::read_line(text, numbers);
-    carry_out(
-        walk, line, numbers, words, clauses, irred, core, mid, local, rows, counts, rec, values,
-        kinds, reasons, levels, trail, out,
-    )
+    carry_out(walk, line, numbers, buffers, page);
 }

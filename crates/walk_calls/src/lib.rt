@@ -1,214 +1,285 @@
-// The lines that add, choose and read: each lends the parts that `op=room` and V leave of the walk's buffers.
+// The calls on the store: each is lent the parts that `op=room` and V leave of the walk's buffers.
 #![tactic(auto)]
 
-use kinds::ClauseRef;
-use walk_kinds::{Told, Walk};
+use kinds::{ClauseRef, HostSide, Refusal};
+use walk_kinds::{Lent, Said, Walk};
 
-// `op=long`: the literals stand in numbers behind tier and glue.
-pub fn long(
-    walk: Walk,
-    words: &mut [u32],
-    clauses: &mut [u32],
-    irred: &mut [u32],
-    core: &mut [u32],
-    mid: &mut [u32],
-    local: &mut [u32],
-    numbers: &[u32],
-    tier: u32,
-    glue: u32,
-    n: usize,
-) -> Told {
-    let rooms = walk.rooms;
-    let state = walk.state;
-    let words_lent = walk_kinds::least(rooms.words, words.len());
-    let clauses_lent = walk_kinds::least(rooms.clauses, clauses.len());
-    let irred_lent = walk_kinds::least(rooms.irred, irred.len());
-    let core_lent = walk_kinds::least(rooms.core, core.len());
-    let mid_lent = walk_kinds::least(rooms.mid, mid.len());
-    let local_lent = walk_kinds::least(rooms.local, local.len());
-    let to = walk_kinds::least(n, numbers.len());
-    let from = walk_kinds::least(2, to);
-    let reply = db::add_clause(
-        state,
-        &mut words[0..words_lent],
-        &mut clauses[0..clauses_lent],
-        &mut irred[0..irred_lent],
-        &mut core[0..core_lent],
-        &mut mid[0..mid_lent],
-        &mut local[0..local_lent],
-        tier as usize,
-        glue as usize,
-        &numbers[from..to],
+// `op=start`: "starts the store with decay 0.5"
+pub fn start(walk: &mut Walk, lent: Lent<'_>, vars: usize) -> Result<Said, Refusal> {
+    let Lent {
+        words,
+        clauses,
+        irred,
+        core,
+        mid,
+        local,
+        rows,
+        counts,
+        rec,
+        ..
+    } = lent;
+    let answer = starting::start(
+        walk.state, vars, 0.5, words, clauses, irred, core, mid, local, rows, counts, rec,
     );
-    walk_replies::added(walk, reply)
+    walk_replies::plain(walk, answer)
+}
+
+// ---- adding and choosing
+
+// `op=long`
+pub fn long(
+    walk: &mut Walk,
+    lent: Lent<'_>,
+    tier: usize,
+    glue: usize,
+    lits: &[u32],
+) -> Result<Said, Refusal> {
+    let Lent {
+        words,
+        clauses,
+        irred,
+        core,
+        mid,
+        local,
+        ..
+    } = lent;
+    let answer = db::add_clause(
+        walk.state, words, clauses, irred, core, mid, local, tier, glue, lits,
+    );
+    walk_replies::added(walk, answer)
 }
 
 // `op=tier`
 pub fn tier(
-    walk: Walk,
-    words: &mut [u32],
-    clauses: &mut [u32],
-    irred: &mut [u32],
-    core: &mut [u32],
-    mid: &mut [u32],
-    local: &mut [u32],
+    walk: &mut Walk,
+    lent: Lent<'_>,
     cref: ClauseRef,
-    tier: u32,
-) -> Told {
-    let rooms = walk.rooms;
-    let state = walk.state;
-    let words_lent = walk_kinds::least(rooms.words, words.len());
-    let clauses_lent = walk_kinds::least(rooms.clauses, clauses.len());
-    let irred_lent = walk_kinds::least(rooms.irred, irred.len());
-    let core_lent = walk_kinds::least(rooms.core, core.len());
-    let mid_lent = walk_kinds::least(rooms.mid, mid.len());
-    let local_lent = walk_kinds::least(rooms.local, local.len());
-    let reply = db::set_clause_tier(
-        state,
-        &mut words[0..words_lent],
-        &mut clauses[0..clauses_lent],
-        &mut irred[0..irred_lent],
-        &mut core[0..core_lent],
-        &mut mid[0..mid_lent],
-        &mut local[0..local_lent],
-        cref,
-        tier as usize,
+    tier: usize,
+) -> Result<Said, Refusal> {
+    let Lent {
+        words,
+        clauses,
+        irred,
+        core,
+        mid,
+        local,
+        ..
+    } = lent;
+    let answer = db::set_clause_tier(
+        walk.state, words, clauses, irred, core, mid, local, cref, tier,
     );
-    walk_replies::plain(walk, reply)
+    walk_replies::plain(walk, answer)
 }
 
 // `op=bump`
-pub fn bump(
-    walk: Walk,
-    words: &mut [u32],
-    clauses: &mut [u32],
-    irred: &mut [u32],
-    core: &mut [u32],
-    mid: &mut [u32],
-    local: &mut [u32],
-    levels: &[u32],
-    cref: ClauseRef,
-) -> Told {
-    let rooms = walk.rooms;
-    let state = walk.state;
-    let vars = walk_kinds::lent_vars(state.vars);
-    let words_lent = walk_kinds::least(rooms.words, words.len());
-    let clauses_lent = walk_kinds::least(rooms.clauses, clauses.len());
-    let irred_lent = walk_kinds::least(rooms.irred, irred.len());
-    let core_lent = walk_kinds::least(rooms.core, core.len());
-    let mid_lent = walk_kinds::least(rooms.mid, mid.len());
-    let local_lent = walk_kinds::least(rooms.local, local.len());
-    let levels_lent = walk_kinds::least(vars, levels.len());
-    let reply = activity_calls::bump_clause(
-        state,
-        &mut words[0..words_lent],
-        &mut clauses[0..clauses_lent],
-        &mut irred[0..irred_lent],
-        &mut core[0..core_lent],
-        &mut mid[0..mid_lent],
-        &mut local[0..local_lent],
-        &levels[0..levels_lent],
-        cref,
+pub fn bump(walk: &mut Walk, lent: Lent<'_>, cref: ClauseRef) -> Result<Said, Refusal> {
+    let Lent {
+        words,
+        clauses,
+        irred,
+        core,
+        mid,
+        local,
+        levels,
+        ..
+    } = lent;
+    let answer = activity_calls::bump_clause(
+        walk.state, words, clauses, irred, core, mid, local, levels, cref,
     );
-    walk_replies::plain(walk, reply)
+    walk_replies::plain(walk, answer)
 }
 
 // `op=decay`
-pub fn decay(
-    walk: Walk,
-    words: &mut [u32],
-    clauses: &mut [u32],
-    irred: &[u32],
-    core: &[u32],
-    mid: &[u32],
-    local: &[u32],
-) -> Told {
-    let rooms = walk.rooms;
-    let state = walk.state;
-    let words_lent = walk_kinds::least(rooms.words, words.len());
-    let clauses_lent = walk_kinds::least(rooms.clauses, clauses.len());
-    let irred_lent = walk_kinds::least(rooms.irred, irred.len());
-    let core_lent = walk_kinds::least(rooms.core, core.len());
-    let mid_lent = walk_kinds::least(rooms.mid, mid.len());
-    let local_lent = walk_kinds::least(rooms.local, local.len());
-    let reply = activity_calls::decay(
-        state,
-        &mut words[0..words_lent],
-        &mut clauses[0..clauses_lent],
-        &irred[0..irred_lent],
-        &core[0..core_lent],
-        &mid[0..mid_lent],
-        &local[0..local_lent],
-    );
-    walk_replies::plain(walk, reply)
+pub fn decay(walk: &mut Walk, lent: Lent<'_>) -> Result<Said, Refusal> {
+    let Lent {
+        words,
+        clauses,
+        irred,
+        core,
+        mid,
+        local,
+        ..
+    } = lent;
+    let answer = activity_calls::decay(walk.state, words, clauses, irred, core, mid, local);
+    walk_replies::plain(walk, answer)
 }
 
 // `op=mids`
-pub fn mids(
-    walk: Walk,
-    words: &mut [u32],
-    clauses: &mut [u32],
-    irred: &mut [u32],
-    core: &mut [u32],
-    mid: &mut [u32],
-    local: &mut [u32],
-) -> Told {
-    let rooms = walk.rooms;
-    let state = walk.state;
-    let words_lent = walk_kinds::least(rooms.words, words.len());
-    let clauses_lent = walk_kinds::least(rooms.clauses, clauses.len());
-    let irred_lent = walk_kinds::least(rooms.irred, irred.len());
-    let core_lent = walk_kinds::least(rooms.core, core.len());
-    let mid_lent = walk_kinds::least(rooms.mid, mid.len());
-    let local_lent = walk_kinds::least(rooms.local, local.len());
-    let reply = reduce_calls::reduce_mids(
-        state,
-        &mut words[0..words_lent],
-        &mut clauses[0..clauses_lent],
-        &mut irred[0..irred_lent],
-        &mut core[0..core_lent],
-        &mut mid[0..mid_lent],
-        &mut local[0..local_lent],
-    );
-    walk_replies::plain(walk, reply)
+pub fn mids(walk: &mut Walk, lent: Lent<'_>) -> Result<Said, Refusal> {
+    let Lent {
+        words,
+        clauses,
+        irred,
+        core,
+        mid,
+        local,
+        ..
+    } = lent;
+    let answer = reduce_calls::reduce_mids(walk.state, words, clauses, irred, core, mid, local);
+    walk_replies::plain(walk, answer)
 }
 
 // `op=binary`
-pub fn binary(walk: Walk, rows: &mut [u32], counts: &mut [u32], numbers: &[u32], n: usize) -> Told {
-    let rooms = walk.rooms;
-    let state = walk.state;
-    let vars = walk_kinds::lent_vars(state.vars);
-    let rows_lent = walk_kinds::least(rooms.rows, rows.len());
-    let counts_lent = walk_kinds::least(2 * vars, counts.len());
-    let to = walk_kinds::least(n, numbers.len());
-    let reply = binary_calls::add_binary_clause(
-        state,
-        &mut rows[0..rows_lent],
-        &mut counts[0..counts_lent],
-        &numbers[0..to],
-    );
-    walk_replies::plain(walk, reply)
+pub fn binary(walk: &mut Walk, lent: Lent<'_>, lits: &[u32]) -> Result<Said, Refusal> {
+    let Lent { rows, counts, .. } = lent;
+    let answer = binary_calls::add_binary_clause(walk.state, rows, counts, lits);
+    walk_replies::plain(walk, answer)
 }
 
 // `op=empty`
-pub fn empty(walk: Walk, rec: &mut [u32]) -> Told {
-    let rooms = walk.rooms;
-    let state = walk.state;
-    let rec_lent = walk_kinds::least(rooms.rec, rec.len());
-    let reply = reading_calls::empty_record(state, &mut rec[0..rec_lent]);
-    walk_replies::plain(walk, reply)
+pub fn empty(walk: &mut Walk, lent: Lent<'_>) -> Result<Said, Refusal> {
+    let Lent { rec, .. } = lent;
+    let answer = reading_calls::empty_record(walk.state, rec);
+    walk_replies::plain(walk, answer)
 }
 
 // `op=assess`
-pub fn assess(walk: Walk, levels: &[u32], numbers: &[u32], n: usize) -> Told {
-    let state = walk.state;
-    let vars = walk_kinds::lent_vars(state.vars);
-    let levels_lent = walk_kinds::least(vars, levels.len());
-    let to = walk_kinds::least(n, numbers.len());
-    let reply = reading_calls::assess_learned_clause(
-        state.vars,
-        &levels[0..levels_lent],
-        &numbers[0..to],
+pub fn assess(walk: &Walk, lent: Lent<'_>, lits: &[u32]) -> Result<Said, Refusal> {
+    let Lent { levels, .. } = lent;
+    let answer = reading_calls::assess_learned_clause(walk.state.vars, levels, lits);
+    walk_replies::assessed(answer)
+}
+
+// ---- cleaning up
+
+// `op=delete`
+pub fn delete(walk: &mut Walk, lent: Lent<'_>, cref: ClauseRef) -> Result<Said, Refusal> {
+    let Lent {
+        words,
+        clauses,
+        irred,
+        core,
+        mid,
+        local,
+        rec,
+        values,
+        kinds,
+        reasons,
+        levels,
+        trail,
+        ..
+    } = lent;
+    let host = HostSide {
+        values,
+        kinds,
+        reasons,
+        levels,
+        trail,
+        assigned: walk.assigned,
+        level: walk.level,
+    };
+    let answer = delete_calls::delete_clause(
+        walk.state, words, clauses, irred, core, mid, local, rec, host, cref,
     );
-    walk_replies::assessed(walk, reply)
+    walk_replies::changed(walk, answer)
+}
+
+// `op=locals`
+pub fn locals(walk: &mut Walk, lent: Lent<'_>) -> Result<Said, Refusal> {
+    let Lent {
+        words,
+        clauses,
+        irred,
+        core,
+        mid,
+        local,
+        rec,
+        values,
+        kinds,
+        reasons,
+        levels,
+        trail,
+        ..
+    } = lent;
+    let host = HostSide {
+        values,
+        kinds,
+        reasons,
+        levels,
+        trail,
+        assigned: walk.assigned,
+        level: walk.level,
+    };
+    let answer = reduce_calls::reduce_locals(
+        walk.state, words, clauses, irred, core, mid, local, rec, host,
+    );
+    walk_replies::changed(walk, answer)
+}
+
+// `op=collect`
+pub fn collect(walk: &mut Walk, lent: Lent<'_>) -> Result<Said, Refusal> {
+    let Lent {
+        words,
+        clauses,
+        irred,
+        core,
+        mid,
+        local,
+        values,
+        kinds,
+        reasons,
+        levels,
+        trail,
+        ..
+    } = lent;
+    let assigned = walk.assigned;
+    let answer = gc::collect_garbage(
+        walk.state, words, clauses, irred, core, mid, local, values, kinds, reasons, levels, trail,
+        assigned, walk.level,
+    );
+    walk_replies::changed(walk, answer)
+}
+
+// `op=units`
+pub fn units(walk: &mut Walk, lent: Lent<'_>) -> Result<Said, Refusal> {
+    let Lent {
+        words,
+        clauses,
+        rec,
+        values,
+        kinds,
+        reasons,
+        levels,
+        trail,
+        ..
+    } = lent;
+    let assigned = walk.assigned;
+    let answer = unit_simplify::prove_units(
+        walk.state, words, clauses, rec, values, kinds, reasons, levels, trail, assigned,
+        walk.level,
+    );
+    walk_replies::proved(walk, answer)
+}
+
+// `op=simplify`
+pub fn simplify(walk: &mut Walk, lent: Lent<'_>) -> Result<Said, Refusal> {
+    let Lent {
+        words,
+        clauses,
+        irred,
+        core,
+        mid,
+        local,
+        rows,
+        counts,
+        rec,
+        values,
+        kinds,
+        reasons,
+        levels,
+        trail,
+    } = lent;
+    let host = HostSide {
+        values,
+        kinds,
+        reasons,
+        levels,
+        trail,
+        assigned: walk.assigned,
+        level: walk.level,
+    };
+    let answer = unit_simplify::unit_simplify(
+        walk.state, words, clauses, irred, core, mid, local, rows, counts, rec, host,
+    );
+    walk_replies::changed(walk, answer)
 }

@@ -1,370 +1,190 @@
 // The lines that are the host's own doing: rooms, levels, the trail, and `op=poke`.
 #![tactic(auto)]
 
-use kinds::{ClauseActivity, Lit, State, Var};
-use walk_kinds::{Rooms, Said, Told, Walk};
-
-// A line that gives a number and leaves what the walk keeps.
-pub fn gives(walk: Walk, number: usize) -> Told {
-    Told {
-        walk: walk,
-        number: number,
-        said: Said::Nothing,
-    }
-}
+use kinds::{Lit, Refusal, Var};
+use walk_kinds::{Buffers, Lent, Rooms, Said, Walk};
 
 // ---- `op=room`: "a number above the length listed above is answered by 1"
 
 fn rooms_ok(rooms: Rooms) -> bool {
-    if rooms.words > 16384 {
-        return false;
-    }
-    if rooms.clauses > 4096 {
-        return false;
-    }
-    if rooms.irred > 4096 {
-        return false;
-    }
-    if rooms.core > 4096 {
-        return false;
-    }
-    if rooms.mid > 4096 {
-        return false;
-    }
-    if rooms.local > 4096 {
-        return false;
-    }
-    if rooms.rows > 16384 {
-        return false;
-    }
-    rooms.rec <= 16384
+    rooms.words <= 16384
+        && rooms.clauses <= 4096
+        && rooms.irred <= 4096
+        && rooms.core <= 4096
+        && rooms.mid <= 4096
+        && rooms.local <= 4096
+        && rooms.rows <= 16384
+        && rooms.rec <= 16384
 }
 
-pub fn room(walk: Walk, rooms: Rooms) -> Told {
+pub fn room(walk: &mut Walk, rooms: Rooms) -> Result<Said, Refusal> {
     if !rooms_ok(rooms) {
-        return gives(walk, 1);
+        return Err(Refusal::Size);
     }
-    let state = walk.state;
-    gives(
-        Walk {
-            state: state,
-            rooms: rooms,
-            assigned: walk.assigned,
-            level: walk.level,
-            answers: walk.answers,
-        },
-        0,
-    )
+    walk.rooms = rooms;
+    Ok(Said::Nothing)
 }
 
 // ---- `op=level`, `op=answers`, `op=depth`
 
-pub fn level(walk: Walk, level: u32) -> Told {
-    let state = walk.state;
-    let rooms = walk.rooms;
-    gives(
-        Walk {
-            state: state,
-            rooms: rooms,
-            assigned: walk.assigned,
-            level: level as usize,
-            answers: walk.answers,
-        },
-        0,
-    )
+pub fn level(walk: &mut Walk, level: u32) -> Result<Said, Refusal> {
+    walk.level = level as usize;
+    Ok(Said::Nothing)
 }
 
-pub fn answers(walk: Walk, on: bool) -> Told {
-    let state = walk.state;
-    let rooms = walk.rooms;
-    gives(
-        Walk {
-            state: state,
-            rooms: rooms,
-            assigned: walk.assigned,
-            level: walk.level,
-            answers: on,
-        },
-        0,
-    )
+pub fn answers(walk: &mut Walk, on: bool) -> Result<Said, Refusal> {
+    walk.answers = on;
+    Ok(Said::Nothing)
 }
 
 // "the host sets a variable's level; X not below V: 4"
-pub fn depth(walk: Walk, levels: &mut [u32], var: Var, level: u32) -> Told {
+pub fn depth(walk: &Walk, lent: &mut Lent<'_>, var: Var, level: u32) -> Result<Said, Refusal> {
     let x = var.0 as usize;
-    if x >= walk.state.vars {
-        return gives(walk, 4);
+    if x >= walk.state.vars || x >= lent.levels.len() {
+        return Err(Refusal::Clause);
     }
-    if x >= levels.len() {
-        return gives(walk, 4);
-    }
-    levels[x] = level;
-    gives(walk, 0)
+    lent.levels[x] = level;
+    Ok(Said::Nothing)
 }
 
 // ---- the trail
 
-pub fn with_assigned(walk: Walk, assigned: usize) -> Walk {
-    let state = walk.state;
-    let rooms = walk.rooms;
-    Walk {
-        state: state,
-        rooms: rooms,
-        assigned: assigned,
-        level: walk.level,
-        answers: walk.answers,
-    }
+// Where `op=start` is accepted: "all unassigned, reasons none, values and levels 0, trail empty, current level 0".
+pub fn begin(walk: &mut Walk, buffers: &mut Buffers) {
+    buffers.values = [2; 1024];
+    buffers.kinds = [0; 1024];
+    buffers.reasons = [0; 1024];
+    buffers.levels = [0; 1024];
+    buffers.trail = [0; 1024];
+    walk.assigned = 0;
+    walk.level = 0;
 }
 
-// "the host puts L true on the trail with this reason and level, whatever they are; L out of range or assigned, or K above 255: 4".
-// The buffers are those lent, per variable and the trail.
+// "the host puts L true on the trail with this reason and level, whatever they are; L out of range or assigned, or K above 255: 4"
 pub fn assign(
-    walk: Walk,
-    values: &mut [u8],
-    kinds: &mut [u8],
-    reasons: &mut [u32],
-    levels: &mut [u32],
-    trail: &mut [u32],
+    walk: &mut Walk,
+    lent: &mut Lent<'_>,
     lit: Lit,
     kind: u32,
     value: u32,
     level: u32,
-) -> Told {
-    let code = lit.0;
-    let x = index_of(code);
-    if x >= walk.state.vars {
-        return gives(walk, 4);
+) -> Result<Said, Refusal> {
+    let x = lit.var().0 as usize;
+    let top = walk.assigned;
+    if x >= walk.state.vars
+        || x >= lent.values.len()
+        || x >= lent.kinds.len()
+        || x >= lent.reasons.len()
+        || x >= lent.levels.len()
+        || lent.values[x] != 2
+        || kind > 255
+        || top >= lent.trail.len()
+    {
+        return Err(Refusal::Clause);
     }
-    if x >= values.len() {
-        return gives(walk, 4);
-    }
-    if x >= kinds.len() {
-        return gives(walk, 4);
-    }
-    if x >= reasons.len() {
-        return gives(walk, 4);
-    }
-    if x >= levels.len() {
-        return gives(walk, 4);
-    }
-    if values[x] != 2 {
-        return gives(walk, 4);
-    }
-    if kind > 255 {
-        return gives(walk, 4);
-    }
-    if walk.assigned >= trail.len() {
-        return gives(walk, 4);
-    }
-    set_byte(values, x, truth(code));
-    set_byte(kinds, x, kind as u8);
-    set_word(reasons, x, value);
-    set_word(levels, x, level);
-    let pushed = push(walk, trail, code);
-    gives(pushed, 0)
+    // the byte that makes it true
+    lent.values[x] = if lit.0 % 2 == 0 { 1 } else { 0 };
+    lent.kinds[x] = kind as u8;
+    lent.reasons[x] = value;
+    lent.levels[x] = level;
+    lent.trail[top] = lit.0;
+    walk.assigned = top + 1;
+    Ok(Said::Nothing)
 }
 
 // "the host puts L true on the trail, reason unit, value 0, at the current level; out of range or assigned: 4". The current level came from a number below 2^32.
-pub fn unit(
-    walk: Walk,
-    values: &mut [u8],
-    kinds: &mut [u8],
-    reasons: &mut [u32],
-    levels: &mut [u32],
-    trail: &mut [u32],
-    lit: Lit,
-) -> Told {
-    let level = low(walk.level);
-    assign(
-        walk, values, kinds, reasons, levels, trail, lit, 1, 0, level,
-    )
-}
-
-fn low(level: usize) -> u32 {
-    (level % 0x1_0000_0000) as u32
-}
-
-// A literal goes on the trail, where there is a place.
-fn push(walk: Walk, trail: &mut [u32], code: u32) -> Walk {
-    let assigned = walk.assigned;
-    if assigned >= trail.len() {
-        return walk;
-    }
-    trail[assigned] = code;
-    with_assigned(walk, assigned + 1)
-}
-
-fn set_byte(bytes: &mut [u8], at: usize, byte: u8) {
-    if at < bytes.len() {
-        bytes[at] = byte;
-    }
-}
-
-fn set_word(words: &mut [u32], at: usize, word: u32) {
-    if at < words.len() {
-        words[at] = word;
-    }
-}
-
-// The place of a literal's variable.
-fn index_of(code: u32) -> usize {
-    (code / 2) as usize
-}
-
-// The assignment byte that makes a literal true.
-fn truth(code: u32) -> u8 {
-    if code % 2 == 0 { 1 } else { 0 }
+pub fn unit(walk: &mut Walk, lent: &mut Lent<'_>, lit: Lit) -> Result<Said, Refusal> {
+    let level = (walk.level % (1 << 32)) as u32;
+    assign(walk, lent, lit, 1, 0, level)
 }
 
 // "the host takes the last literal off the trail: its variable is unassigned, its reason, value and level stay, the trail entry becomes 0; empty trail: 4"
-pub fn undo(walk: Walk, values: &mut [u8], trail: &mut [u32]) -> Told {
-    let assigned = walk.assigned;
-    if assigned == 0 {
-        return gives(walk, 4);
+pub fn undo(walk: &mut Walk, lent: &mut Lent<'_>) -> Result<Said, Refusal> {
+    let top = walk.assigned;
+    if top == 0 || top > lent.trail.len() {
+        return Err(Refusal::Clause);
     }
-    if assigned > trail.len() {
-        return gives(walk, 4);
+    let last = top - 1;
+    let x = Lit(lent.trail[last]).var().0 as usize;
+    if x >= lent.values.len() {
+        return Err(Refusal::Clause);
     }
-    let last = assigned - 1;
-    let x = index_of(trail[last]);
-    if x >= walk_kinds::lent_vars(walk.state.vars) {
-        return gives(walk, 4);
-    }
-    if x >= values.len() {
-        return gives(walk, 4);
-    }
-    values[x] = 2;
-    trail[last] = 0;
-    gives(with_assigned(walk, last), 0)
+    lent.values[x] = 2;
+    lent.trail[last] = 0;
+    walk.assigned = last;
+    Ok(Said::Nothing)
 }
 
 // ---- `op=poke`: "writes a number into a lent buffer, or a state field, as it stands; a place outside, or a value too large for it: 4"
 
-// A word of a buffer that is lent up to a room.
-pub fn poke_word(walk: Walk, words: &mut [u32], room: usize, at: u32, value: u32) -> Told {
-    let place = at as usize;
-    if place >= room {
-        return gives(walk, 4);
+fn put<T: Copy + TryFrom<u32>>(list: &mut [T], at: u32, value: u32) -> Result<Said, Refusal>
+where
+    T::Error: Drop,
+{
+    let at = at as usize;
+    let Ok(value) = T::try_from(value) else {
+        return Err(Refusal::Clause);
+    };
+    if at >= list.len() {
+        return Err(Refusal::Clause);
     }
-    if place >= words.len() {
-        return gives(walk, 4);
-    }
-    words[place] = value;
-    gives(walk, 0)
-}
-
-pub fn poke_byte(walk: Walk, bytes: &mut [u8], room: usize, at: u32, value: u32) -> Told {
-    let place = at as usize;
-    if place >= room {
-        return gives(walk, 4);
-    }
-    if place >= bytes.len() {
-        return gives(walk, 4);
-    }
-    if value > 255 {
-        return gives(walk, 4);
-    }
-    bytes[place] = value as u8;
-    gives(walk, 0)
-}
-
-pub fn with_state(walk: Walk, state: State) -> Walk {
-    let rooms = walk.rooms;
-    Walk {
-        state: state,
-        rooms: rooms,
-        assigned: walk.assigned,
-        level: walk.level,
-        answers: walk.answers,
-    }
-}
-
-// "State fields by `at`: 0 V, 1 used words, 2 used clauses, 3 to 6 used tier lists, 7 used record, 8 to 11 the four counts, 12 garbage, 13 binary count, 14 the bump's bits, 15 the inverse
-// decay's bits, 16 the trail's used length (host)."
-pub fn poke_state(walk: Walk, at: u32, value: u32) -> Told {
-    if at > 16 {
-        return gives(walk, 4);
-    }
-    let n = value as usize;
-    if at == 16 {
-        return gives(with_assigned(walk, n), 0);
-    }
-    let state = walk.state;
-    if at >= 14 {
-        let poked = poke_activity(state, at, value);
-        return gives(with_state(walk, poked), 0);
-    }
-    if at >= 8 {
-        let poked = poke_count(state, at, n);
-        return gives(with_state(walk, poked), 0);
-    }
-    let poked = poke_used(state, at, n);
-    gives(with_state(walk, poked), 0)
+    list[at] = value;
+    Ok(Said::Nothing)
 }
 
 // "A bits pattern that is a NaN's stores a NaN."
 fn number_of(bits: u32) -> f32 {
     if bits % 0x8000_0000 > 0x7f80_0000 {
-        return 0.0f32 / 0.0f32;
+        return f32::NAN;
     }
     f32::from_bits(bits)
 }
 
-fn poke_activity(state: State, at: u32, bits: u32) -> State {
-    let activity = state.activity;
-    let number = number_of(bits);
-    let poked = if at == 14 {
-        ClauseActivity {
-            bump: number,
-            inv_decay: activity.inv_decay,
-        }
-    } else {
-        ClauseActivity {
-            bump: activity.bump,
-            inv_decay: number,
-        }
-    };
-    let mut s = state;
-    s.activity = poked;
-    s
+// "State fields by `at`: 0 V, 1 used words, 2 used clauses, 3 to 6 used tier lists, 7 used record, 8 to 11 the four counts, 12 garbage, 13 binary count, 14 the bump's bits, 15 the inverse
+// decay's bits, 16 the trail's used length (host)."
+fn poke_state(walk: &mut Walk, at: u32, value: u32) -> Result<Said, Refusal> {
+    let n = value as usize;
+    match at {
+        0 => walk.state.vars = n,
+        1 => walk.state.words = n,
+        2 => walk.state.clauses = n,
+        3..=6 => walk.state.tiers[at as usize - 3] = n,
+        7 => walk.state.recorded = n,
+        8..=11 => walk.state.counts[at as usize - 8] = n,
+        12 => walk.state.garbage = n,
+        13 => walk.state.binary = n,
+        14 => walk.state.activity.bump = number_of(value),
+        15 => walk.state.activity.inv_decay = number_of(value),
+        16 => walk.assigned = n,
+        _ => return Err(Refusal::Clause),
+    }
+    Ok(Said::Nothing)
 }
 
-fn poke_count(state: State, at: u32, n: usize) -> State {
-    let mut s = state;
-    if at == 8 {
-        s.counts[0] = n;
-    } else if at == 9 {
-        s.counts[1] = n;
-    } else if at == 10 {
-        s.counts[2] = n;
-    } else if at == 11 {
-        s.counts[3] = n;
-    } else if at == 12 {
-        s.garbage = n;
-    } else {
-        s.binary = n;
+// "Buffers of `poke`: 0 words, 1 clauses, 2 irred, 3 core, 4 mid, 5 local, 6 rows, 7 row counts, 8 record, 9 assignment bytes, 10 reason kinds, 11 reason values, 12 levels, 13 trail, 14 the state."
+pub fn poke(
+    walk: &mut Walk,
+    lent: &mut Lent<'_>,
+    buffer: u32,
+    at: u32,
+    value: u32,
+) -> Result<Said, Refusal> {
+    match buffer {
+        0 => put(lent.words, at, value),
+        1 => put(lent.clauses, at, value),
+        2 => put(lent.irred, at, value),
+        3 => put(lent.core, at, value),
+        4 => put(lent.mid, at, value),
+        5 => put(lent.local, at, value),
+        6 => put(lent.rows, at, value),
+        7 => put(lent.counts, at, value),
+        8 => put(lent.rec, at, value),
+        9 => put(lent.values, at, value),
+        10 => put(lent.kinds, at, value),
+        11 => put(lent.reasons, at, value),
+        12 => put(lent.levels, at, value),
+        13 => put(lent.trail, at, value),
+        14 => poke_state(walk, at, value),
+        _ => Err(Refusal::Clause),
     }
-    s
-}
-
-fn poke_used(state: State, at: u32, n: usize) -> State {
-    let mut s = state;
-    if at == 0 {
-        s.vars = n;
-    } else if at == 1 {
-        s.words = n;
-    } else if at == 2 {
-        s.clauses = n;
-    } else if at == 3 {
-        s.tiers[0] = n;
-    } else if at == 4 {
-        s.tiers[1] = n;
-    } else if at == 5 {
-        s.tiers[2] = n;
-    } else if at == 6 {
-        s.tiers[3] = n;
-    } else {
-        s.recorded = n;
-    }
-    s
 }

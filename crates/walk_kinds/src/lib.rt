@@ -1,7 +1,7 @@
-// What the walk keeps between lines besides the buffers, and what a line's carrying out gives.
+// What the walk keeps between lines, and what an accepted line says.
 #![tactic(auto)]
 
-ghost use Rattle.std.specs.Prelude.{◌≡◌, ◌≤◌, min};
+ghost use Rattle.std.specs.Prelude.{◌≤◌};
 
 use kinds::{State, Tier};
 
@@ -30,7 +30,7 @@ pub struct Walk {
     pub answers: bool,
 }
 
-// What an accepted line says besides 0.
+// What an accepted line says besides 0. Nothing is one case of five: an Option around the others would be opened at each of them.
 #[derive(Clone, Copy)]
 pub enum Said {
     Nothing,
@@ -40,30 +40,86 @@ pub enum Said {
     Assessed(Tier, u32),
 }
 
-// What a line gives: the table's number, 0 where accepted, and what it says.
-#[derive(Clone, Copy)]
-pub struct Told {
-    pub walk: Walk,
-    pub number: usize,
-    pub said: Said,
+// The buffers: the store's, then the host's assignment bytes, reason kinds and values, levels and trail.
+#[derive(Drop)]
+pub struct Buffers {
+    pub words: [u32; 16384],
+    pub clauses: [u32; 4096],
+    pub irred: [u32; 4096],
+    pub core: [u32; 4096],
+    pub mid: [u32; 4096],
+    pub local: [u32; 4096],
+    pub rows: [u32; 16384],
+    pub counts: [u32; 2048],
+    pub rec: [u32; 16384],
+    pub values: [u8; 1024],
+    pub kinds: [u8; 1024],
+    pub reasons: [u32; 1024],
+    pub levels: [u32; 1024],
+    pub trail: [u32; 1024],
 }
 
-pub fn least(a: usize, b: usize) -> usize
-    ensures upper_bound { (result ≤ a) × (result ≤ b) }
-    ensures value { result ≡ min a b }
-{
-    if a < b { a } else { b }
+// What is lent of them.
+#[derive(Drop)]
+pub struct Lent<'a> {
+    pub words: &'a mut [u32],
+    pub clauses: &'a mut [u32],
+    pub irred: &'a mut [u32],
+    pub core: &'a mut [u32],
+    pub mid: &'a mut [u32],
+    pub local: &'a mut [u32],
+    pub rows: &'a mut [u32],
+    pub counts: &'a mut [u32],
+    pub rec: &'a mut [u32],
+    pub values: &'a mut [u8],
+    pub kinds: &'a mut [u8],
+    pub reasons: &'a mut [u32],
+    pub levels: &'a mut [u32],
+    pub trail: &'a mut [u32],
+}
+
+impl Buffers {
+    // The parts that `op=room` and V leave; the trail is lent whole.
+    pub fn lend(&mut self, rooms: Rooms, vars: usize) -> Lent<'_> {
+        let n = lent_vars(vars);
+        let Buffers {
+            words,
+            clauses,
+            irred,
+            core,
+            mid,
+            local,
+            rows,
+            counts,
+            rec,
+            values,
+            kinds,
+            reasons,
+            levels,
+            trail,
+        } = self;
+        Lent {
+            words: &mut words[..rooms.words.min(16384)],
+            clauses: &mut clauses[..rooms.clauses.min(4096)],
+            irred: &mut irred[..rooms.irred.min(4096)],
+            core: &mut core[..rooms.core.min(4096)],
+            mid: &mut mid[..rooms.mid.min(4096)],
+            local: &mut local[..rooms.local.min(4096)],
+            rows: &mut rows[..rooms.rows.min(16384)],
+            counts: &mut counts[..2 * n],
+            rec: &mut rec[..rooms.rec.min(16384)],
+            values: &mut values[..n],
+            kinds: &mut kinds[..n],
+            reasons: &mut reasons[..n],
+            levels: &mut levels[..n],
+            trail,
+        }
+    }
 }
 
 // "Buffers per variable and per literal are lent V and 2V long while V is 1 to 1,024, and 1,024 and 2,048 long otherwise"
-pub fn lent_vars(vars: usize) -> usize
+fn lent_vars(vars: usize) -> usize
     ensures { result ≤ 1024 }
 {
-    if vars == 0 {
-        return 1024;
-    }
-    if vars > 1024 {
-        return 1024;
-    }
-    vars
+    if vars == 0 || vars > 1024 { 1024 } else { vars }
 }

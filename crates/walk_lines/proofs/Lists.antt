@@ -9,6 +9,7 @@ use native.Mathlib.Omega.{arith}
 use lib.ListN.{length, get_or, take, drop, set, drop_of_length-le, length-set}
 use lib.Seq.{drop-cons, take-suc-set}
 use lib.Dec.{ltb, eqb}
+use Rattle.std.proofs.lemmas.Bool.Decides.{nat_tests}
 use borrow.Author.Tests.{lt-ltb, le-ltb, eq-eqb, ne_eqb}
 use Rattle.walk_lines.specs.Lines.{digit, whole, Taken, no, taken, more, items, listed}
 use Rattle.walk_lines.specs.Told.{prefixed}
@@ -39,11 +40,10 @@ listed_none line values from n out =
     let e : drop from line ≡ [] = drop_of_length-le line {i = from} out in
     rw e (sym (prefixed_end (take n values)))
 
-pub listed_some : (line values : List ℕ) (from n : ℕ) → from < length line → prefixed (take n values) (items 1024 0 0 (drop from line)) ≡ prefixed (take n values) (listed (drop from line))
+listed_some : (line values : List ℕ) (n : ℕ) → 0 < length line → prefixed (take n values) (items 1024 0 0 line) ≡ prefixed (take n values) (listed line)
 unfolding listed
-listed_some line values from n inside =
-    let e : drop from line ≡ get_or line from 0 ∷ drop (suc from) line = drop-cons line from 0 inside in
-    rw e
+listed_some [] values n some = absurd (omega arith)
+listed_some (b ∷ line) values n some = refl
 
 -- how far a list is read: what is done, with what remains, gives the goal
 pub record Listing (line values : List ℕ) (i k v n m : ℕ) (goal : Taken) : Type 0 where
@@ -54,10 +54,13 @@ pub record Listing (line values : List ℕ) (i k v n m : ℕ) (goal : Taken) : T
   pub room : length values ≡ 2048
   pub is : prefixed (take (n + m) values) (items (1024 - m) k v (drop i line)) ≡ goal
 
-pub list_start : {line values : List ℕ} {from n : ℕ} → n ≤ 1024 → length values ≡ 2048 → from < length line → Listing line values from 0 0 n 0 (prefixed (take n values) (listed (drop from line)))
-list_start {line} {values} {from} {n} behind room inside =
+pub list_start : {line values : List ℕ} {n : ℕ} → n ≤ 1024 → length values ≡ 2048 → 0 < length line → Listing line values 0 0 0 n 0 (prefixed (take n values) (listed line))
+list_start {line} {values} {n} behind room some =
     let z : n + 0 ≡ n = omega arith in
-    record { behind = behind; count = omega arith; digits = omega arith; value = omega arith; room = room; is = rw z (listed_some line values from n inside) }
+    record { behind = behind; count = omega arith; digits = omega arith; value = omega arith; room = room; is = rw z (listed_some line values n some) }
+
+room_left : (m : ℕ) → ltb 0 (1024 - m) ≡ ltb m 1024
+room_left m = grind (arith, nat_tests)
 
 module _ {line values : List ℕ} {i k v n m : ℕ} {goal : Taken} (at : Listing line values i k v n m goal) where
   inside_is : i < length line → prefixed (take (n + m) values) (items (1024 - m) k v (get_or line i 0 ∷ drop (suc i) line)) ≡ goal
@@ -79,14 +82,9 @@ module _ {line values : List ℕ} {i k v n m : ℕ} {goal : Taken} (at : Listing
   unfolding items
   at_end out = let e : drop i line ≡ [] = drop_of_length-le line {i = i} out in rw e at at.is
 
-  pub list_full : i < length line → get_or line i 0 ≡ 44 → 1024 ≤ m → no ≡ goal
-  list_full inside comma full =
-      let f : ltb 0 (1024 - m) ≡ false = le-ltb 0 (1024 - m) (omega arith) in
-      sym (prefixed_no _) ∙ (rw f at (at_comma inside comma))
-
-  pub list_unwhole : i < length line → get_or line i 0 ≡ 44 → m < 1024 → whole k v ≡ false → no ≡ goal
-  list_unwhole inside comma room w =
-      let f : ltb 0 (1024 - m) ≡ true = lt-ltb 0 (1024 - m) (omega arith) in
+  pub list_refused : i < length line → get_or line i 0 ≡ 44 → (ltb m 1024 && whole k v) ≡ false → no ≡ goal
+  list_refused inside comma w =
+      let f : ltb 0 (1024 - m) ≡ ltb m 1024 = room_left m in
       sym (prefixed_no _) ∙ (rw (f, w) at (at_comma inside comma))
 
   pub list_comma : i < length line → get_or line i 0 ≡ 44 → m < 1024 → whole k v ≡ true → Listing line (set values (n + m) v) (i + 1) 0 0 n (m + 1) goal
@@ -114,21 +112,16 @@ module _ {line values : List ℕ} {i k v n m : ℕ} {goal : Taken} (at : Listing
       let r : i + 1 ≡ suc i = add-one i in
       record { behind = at.behind; count = at.count; digits = omega arith; value = rw p next.1; room = at.room; is = rw (p, r, next.0) (rw (d, f) at (at_other inside other)) }
 
-  pub list_end_full : length line ≤ i → 1024 ≤ m → no ≡ goal
-  list_end_full out full =
-      let f : ltb 0 (1024 - m) ≡ false = le-ltb 0 (1024 - m) (omega arith) in
-      sym (prefixed_no _) ∙ (rw f at (at_end out))
-
-  pub list_end_unwhole : length line ≤ i → m < 1024 → whole k v ≡ false → no ≡ goal
-  list_end_unwhole out room w =
-      let f : ltb 0 (1024 - m) ≡ true = lt-ltb 0 (1024 - m) (omega arith) in
+  pub list_end_refused : length line ≤ i → (ltb m 1024 && whole k v) ≡ false → no ≡ goal
+  list_end_refused out w =
+      let f : ltb 0 (1024 - m) ≡ ltb m 1024 = room_left m in
       sym (prefixed_no _) ∙ (rw (f, w) at (at_end out))
 
-  pub list_end : length line ≤ i → m < 1024 → whole k v ≡ true → taken (take (n + m + 1) (set values (n + m) v)) ≡ goal
+  pub list_end : length line ≤ i → m < 1024 → whole k v ≡ true → taken (take (n + (m + 1)) (set values (n + m) v)) ≡ goal
   unfolding prefixed
   list_end out fewer w =
       let f : ltb 0 (1024 - m) ≡ true = lt-ltb 0 (1024 - m) (omega arith) in
       let g : prefixed (take (n + m) values) (taken (v ∷ [])) ≡ goal = rw (f, w) at (at_end out) in
-      let p : n + m + 1 ≡ suc (n + m) = add-one (n + m) in
+      let p : n + (m + 1) ≡ suc (n + m) = omega arith in
       let s : take (suc (n + m)) (set values (n + m) v) ≡ take (n + m) values ++ v ∷ [] = take-suc-set values (n + m) v (omega arith) in
       rw (p, s) g

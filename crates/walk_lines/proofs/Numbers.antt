@@ -3,7 +3,7 @@ use mathlib.Core.Path.{◌≡◌, refl, ◌∙◌}
 use mathlib.Core.Bool.{Bool, true, false, cond}
 use mathlib.Core.List.{List, [], ◌∷◌}
 use Prim.Native.Nat.{ℕ, suc, ◌+◌, ◌-◌, ◌*◌, ◌^◌, ◌≤◌, ◌<◌}
-use native.Mathlib.Nat.{pow-le-pow_right, pow-suc}
+use native.Mathlib.Nat.{pow-suc}
 use native.Mathlib.Numerals.{add-one}
 use native.Mathlib.Omega.{arith}
 use lib.ListN.{length, get_or, drop, drop_of_length-le}
@@ -12,27 +12,7 @@ use lib.Dec.{ltb}
 use borrow.Author.Tests.{lt-ltb, le-ltb, ltb-true}
 use Rattle.walk_lines.specs.Lines.{digit, whole, Number, none, is, number}
 use Rattle.walk_lines.specs.Told.{number_of, digits_at}
-use Rattle.walk_lines.specs.declared.Digits.TheVariants.{Nothing, Number as ANumber}
-
-pub digit_from : (b : ℕ) → digit b ≡ true → 48 ≤ b
-unfolding digit
-digit_from b h = go (ltb 47 b) refl h
-  where
-    go : (t : Bool) → ltb 47 b ≡ t → digit b ≡ true → 48 ≤ b
-    go true e h = omega (arith, ltb-true 47 b e)
-    go false e h = let z : ◌≡◌ {A = Bool} false true = rw e at h in let y : ◌≡◌ {A = ℕ} 0 1 = cc in absurd (omega arith)
-
-pub digit_to : (b : ℕ) → digit b ≡ true → b < 58
-unfolding digit
-digit_to b h = go (ltb 47 b) (ltb b 58) refl refl h
-  where
-    go : (t u : Bool) → ltb 47 b ≡ t → ltb b 58 ≡ u → digit b ≡ true → b < 58
-    go t true d e h = ltb-true b 58 e
-    go true false d e h = let z : ◌≡◌ {A = Bool} false true = rw (d, e) at h in let y : ◌≡◌ {A = ℕ} 0 1 = cc in absurd (omega arith)
-    go false false d e h = let z : ◌≡◌ {A = Bool} false true = rw d at h in let y : ◌≡◌ {A = ℕ} 0 1 = cc in absurd (omega arith)
-
-pub few : (k : ℕ) → k < 10 → 10 ^ k ≤ 1000000000
-few k h = pow-le-pow_right {n = 10} (omega arith) {i = k} {j = 9} (omega arith)
+use Rattle.std.proofs.Common.{Some, None}
 
 pub next_power : (k v b : ℕ) → v < 10 ^ k → b < 58 → v * 10 + (b - 48) < 10 ^ suc k
 next_power k v b h d = rw pow-suc (omega arith)
@@ -48,9 +28,9 @@ whole_small k v h = go (ltb 0 k) (ltb v (2 ^ 32)) refl refl h
     go false false d e h = let z : ◌≡◌ {A = Bool} false true = rw d at h in let y : ◌≡◌ {A = ℕ} 0 1 = cc in absurd (omega arith)
 
 module _ (line : List ℕ) (i k v : ℕ) (goal : Number) (before : number k v (drop i line) ≡ goal) where
-  told : (b : Bool) → number_of line (cond b (ANumber v i) Nothing) ≡ cond b (is v (drop i line)) none
-  told true = refl
-  told false = refl
+  told : (j : ℕ) (b : Bool) → number_of line (cond b (Some (v, j)) None) ≡ cond b (is v (drop j line)) none
+  told j true = refl
+  told j false = refl
 
   pub number_digit : i < length line → digit (get_or line i 0) ≡ true → k < 10 → number (k + 1) (v * 10 + (get_or line i 0 - 48)) (drop (i + 1) line) ≡ goal
   unfolding number
@@ -77,13 +57,14 @@ module _ (line : List ℕ) (i k v : ℕ) (goal : Number) (before : number k v (d
       let e : drop i line ≡ get_or line i 0 ∷ drop (suc i) line = drop-cons line i 0 inside in
       let g : number k v (get_or line i 0 ∷ drop (suc i) line) ≡ goal = rw e at before in
       let h : cond (whole k v) (is v (get_or line i 0 ∷ drop (suc i) line)) none ≡ goal = rw d at g in
-      let t : number_of line (digits_at k v i) ≡ cond (whole k v) (is v (drop i line)) none = told (whole k v) in
+      let t : number_of line (digits_at k v i) ≡ cond (whole k v) (is v (drop i line)) none = told i (whole k v) in
       t ∙ (rw e h)
 
-  pub number_end : length line ≤ i → number_of line (digits_at k v i) ≡ goal
+  pub number_end : (j : ℕ) → length line ≤ i → length line ≤ j → number_of line (digits_at k v j) ≡ goal
   unfolding number
-  number_end out =
+  number_end j out past =
       let e : drop i line ≡ [] = drop_of_length-le line {i = i} out in
+      let f : drop j line ≡ [] = drop_of_length-le line {i = j} past in
       let g : number k v [] ≡ goal = rw e at before in
-      let t : number_of line (digits_at k v i) ≡ cond (whole k v) (is v (drop i line)) none = told (whole k v) in
-      t ∙ (rw e g)
+      let t : number_of line (digits_at k v j) ≡ cond (whole k v) (is v (drop j line)) none = told j (whole k v) in
+      t ∙ (rw f g)

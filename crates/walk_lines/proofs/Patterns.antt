@@ -1,20 +1,16 @@
 -- One step of holding a line against a pattern: the pattern is passed up to the place p and the line up to i, and n numbers stand in `values`. Assumes nothing.
-use mathlib.Core.Path.{◌≡◌, refl, sym, ap, ◌∙◌}
+use mathlib.Core.Path.{◌≡◌, sym, ◌∙◌}
 use mathlib.Core.Bool.{true, false, cond}
 use mathlib.Core.List.{List, [], ◌∷◌, ◌++◌}
 use Prim.Native.Nat.{ℕ, suc, ◌+◌, ◌≤◌, ◌<◌}
 use native.Mathlib.Numerals.{add-one}
 use native.Mathlib.Omega.{arith}
-use denote.Enum.Declared.{tag_of}
 use lib.ListN.{length, get_or, take, drop, set, drop_of_length-le, length-set}
 use lib.Seq.{drop-cons, take-suc-set}
 use lib.Dec.{eqb}
 use borrow.Author.Tests.{eq-eqb, ne_eqb}
 use Rattle.walk_lines.specs.Lines.{none, is, number, Taken, no, taken, more, after, listed, byte, matching}
-use Rattle.walk_lines.specs.Told.{number_of, prefixed}
-use Rattle.walk_lines.specs.declared.Digits.{Digits}
-use Rattle.walk_lines.specs.declared.Digits.TheVariants.{Nothing, Number as ANumber}
-use Rattle.walk_lines.specs.contracts.Digits as digits
+use Rattle.walk_lines.specs.Told.{prefixed}
 use Rattle.walk_lines.proofs.Lists.{prefixed_none, prefixed_no, prefixed_more, prefixed_end}
 
 -- what is done, with what remains, gives what the whole line gives
@@ -28,10 +24,6 @@ pub record Matching (pattern line values : List ℕ) (p i n : ℕ) : Type 0 wher
 pub match_start : {pattern line values : List ℕ} → length pattern ≤ 1024 → length values ≡ 2048 → Matching pattern line values 0 0 0
 match_start {pattern} {line} {values} short room = record { count = omega arith; inside = omega arith; short = short; room = room; is = prefixed_none (matching pattern line) }
 
-none_told : (line : List ℕ) (r : Digits) → tag_of digits.the_type r ≡ 0 → number_of line r ≡ none
-none_told line Nothing e = refl
-none_told line (ANumber v next) e = absurd (omega arith)
-
 module _ {pattern line values : List ℕ} {p i n : ℕ} (at : Matching pattern line values p i n) where
   abbrev b : ℕ
   b = get_or pattern p 0
@@ -43,17 +35,14 @@ module _ {pattern line values : List ℕ} {p i n : ℕ} (at : Matching pattern l
   at_number : p < length pattern → b ≡ 35 → prefixed (take n values) (after (number 0 0 (drop i line)) (matching (drop (suc p) pattern))) ≡ matching pattern line
   at_number further hash = let f : eqb b 35 ≡ true = eq-eqb b 35 hash in rw f at (next_is further)
 
-  pub match_none : (r : Digits) → p < length pattern → b ≡ 35 → number_of line r ≡ number 0 0 (drop i line) → tag_of digits.the_type r ≡ 0 → no ≡ matching pattern line
+  pub match_none : p < length pattern → b ≡ 35 → none ≡ number 0 0 (drop i line) → no ≡ matching pattern line
   unfolding after
-  match_none r further hash found nothing =
-      let e : number 0 0 (drop i line) ≡ none = sym found ∙ none_told line r nothing in
-      sym (prefixed_no _) ∙ (rw e at (at_number further hash))
+  match_none further hash found = sym (prefixed_no _) ∙ (rw (← found) at (at_number further hash))
 
-  pub match_number : (r : Digits) {v next : ℕ} → p < length pattern → b ≡ 35 → number_of line r ≡ number 0 0 (drop i line) → r ≡ ANumber v next → Matching pattern line (set values n v) (p + 1) next (n + 1)
+  pub match_number : {v next : ℕ} → p < length pattern → b ≡ 35 → is v (drop next line) ≡ number 0 0 (drop i line) → Matching pattern line (set values n v) (p + 1) next (n + 1)
   unfolding after
-  match_number r {v} {next} further hash found told =
-      let e : number 0 0 (drop i line) ≡ is v (drop next line) = sym found ∙ ap (number_of line) told in
-      let g : prefixed (take n values) (more v (matching (drop (suc p) pattern) (drop next line))) ≡ matching pattern line = rw e at (at_number further hash) in
+  match_number {v} {next} further hash found =
+      let g : prefixed (take n values) (more v (matching (drop (suc p) pattern) (drop next line))) ≡ matching pattern line = rw (← found) at (at_number further hash) in
       let q : p + 1 ≡ suc p = add-one p in
       let m : n + 1 ≡ suc n = add-one n in
       let s : take (suc n) (set values n v) ≡ take n values ++ v ∷ [] = take-suc-set values n v (omega arith) in
@@ -83,14 +72,14 @@ module _ {pattern line values : List ℕ} {p i n : ℕ} (at : Matching pattern l
       let e : drop i line ≡ get_or line i 0 ∷ drop (suc i) line = drop-cons line i 0 inside in
       rw e at (at_byte further hash star)
 
-  pub match_differs : p < length pattern → (b ≡ 35 → ⊥) → (b ≡ 42 → ⊥) → i < length line → (b ≡ get_or line i 0 → ⊥) → no ≡ matching pattern line
+  pub match_differs : p < length pattern → (b ≡ 35 → ⊥) → (b ≡ 42 → ⊥) → i < length line → (get_or line i 0 ≡ b → ⊥) → no ≡ matching pattern line
   match_differs further hash star inside differs =
-      let f : eqb b (get_or line i 0) ≡ false = ne_eqb b (get_or line i 0) differs in
+      let f : eqb b (get_or line i 0) ≡ false = ne_eqb b (get_or line i 0) (λ (e : b ≡ get_or line i 0). differs (sym e)) in
       sym (prefixed_no _) ∙ (rw f at (at_both further hash star inside))
 
-  pub match_byte : p < length pattern → (b ≡ 35 → ⊥) → (b ≡ 42 → ⊥) → i < length line → b ≡ get_or line i 0 → Matching pattern line values (p + 1) (i + 1) n
+  pub match_byte : p < length pattern → (b ≡ 35 → ⊥) → (b ≡ 42 → ⊥) → i < length line → get_or line i 0 ≡ b → Matching pattern line values (p + 1) (i + 1) n
   match_byte further hash star inside same =
-      let f : eqb b (get_or line i 0) ≡ true = eq-eqb b (get_or line i 0) same in
+      let f : eqb b (get_or line i 0) ≡ true = eq-eqb b (get_or line i 0) (sym same) in
       let q : p + 1 ≡ suc p = add-one p in
       let m : i + 1 ≡ suc i = add-one i in
       record { count = omega arith; inside = omega arith; short = at.short; room = at.room; is = rw (q, m) (rw f at (at_both further hash star inside)) }

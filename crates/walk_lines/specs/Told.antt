@@ -1,27 +1,23 @@
 -- What the code's answers stand for: values is the buffer that holds the numbers that were read.
-use Rattle.std.specs.Prelude.{ℕ, cond, List, [], ◌∷◌, ◌++◌, take, drop}
+use Rattle.std.specs.Prelude.{ℕ, Option, Some, None, cond, List, [], ◌∷◌, ◌++◌, take, drop}
 use Rattle.calls.specs.Call.{add_clause, set_tier, delete, add_binary, implied, literals, assess, bump, decay, reduce_locals, reduce_mids, collect, prove_units, unit_simplify, empty_record}
 use Rattle.walk_lines.specs.Lines.{whole, Number, none, is, Taken, no, taken, Meaning, unreadable, start, room, call, view, unit, assign, undo, level, depth, poke, answers, show, dump, tails}
-use Rattle.walk_lines.specs.declared.Digits.{Digits}
-use Rattle.walk_lines.specs.declared.Digits.TheVariants.{Nothing, Number as ANumber}
-use Rattle.walk_lines.specs.declared.Matched.{Matched}
-use Rattle.walk_lines.specs.declared.Matched.TheVariants.{Other, Numbers}
 use Rattle.walk_kinds.specs.declared.Rooms.{Rooms}
 use Rattle.walk_lines.specs.declared.Line.{Line}
 use Rattle.walk_lines.specs.declared.Line.TheVariants.{Unreadable, Start, Room, Long, Binary, Tier, Delete, Bump, Decay, Locals, Mids, Collect, Units, Simplify, Empty, Assess, Implied, Literals, View, Unit, Assign, Undo, Level, Depth, Poke, Answers, Show, Dump, Tails}
 
 -- a number, and the place behind it
-abbrev pub number_of : List ℕ → Digits → Number
-number_of line Nothing = none
-number_of line (ANumber v next) = is v (drop next line)
+abbrev pub number_of : List ℕ → Option (ℕ × ℕ) → Number
+number_of line None = none
+number_of line (Some p) = is p.0 (drop p.1 line)
 
 -- k digits with the value v were read, up to the place i
-abbrev pub digits_at : ℕ → ℕ → ℕ → Digits
-digits_at k v i = cond (whole k v) (ANumber v i) Nothing
+abbrev pub digits_at : ℕ → ℕ → ℕ → Option (ℕ × ℕ)
+digits_at k v i = cond (whole k v) (Some (v, i)) None
 
-abbrev pub taken_of : List ℕ → Matched → Taken
-taken_of values Other = no
-taken_of values (Numbers n) = taken (take n values)
+abbrev pub taken_of : List ℕ → Option ℕ → Taken
+taken_of values None = no
+taken_of values (Some n) = taken (take n values)
 
 -- numbers read before, and then more
 unfoldable pub prefixed : List ℕ → Taken → Taken

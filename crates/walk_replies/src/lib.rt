@@ -1,144 +1,58 @@
-// What a call's reply makes of the walk: its number, what it says, and the state from then on.
+// What a call's answer makes of the walk, and what it says. A refused call leaves the walk as it was.
 #![tactic(auto)]
 
 ghost use Rattle.std.specs.Prelude.{◌≡◌};
-ghost use Rattle.kinds.specs.Numbers.{refusal_number};
-ghost use Rattle.calls.specs.Answers.{plain_number, added_number, added_answer, changed_number, changed_answer, proved_number, proved_answer, assessed_number, assessed_answer};
+ghost use Rattle.calls.specs.Answers.{number_of, added_answer, changed_answer, proved_answer, assessed_answer, state_after, state_added, state_changed, state_proved, assigned_after};
 ghost use Rattle.calls.specs.Outcome.{nothing};
-ghost use Rattle.walk_replies.specs.Heard.{said_answer};
+ghost use Rattle.walk_replies.specs.Heard.{said_of};
 
-use kinds::{
-    Added, AddedReply, Assessed, Changed, ChangedReply, Plain, PlainReply, Proved, ProvedReply,
-    Refusal, State,
-};
-use walk_kinds::{Said, Told, Walk};
+use kinds::{Added, Assessed, Changed, Proved, Refusal, State};
+use walk_kinds::{Said, Walk};
 
-// The table's number of a refusal.
-pub fn number_of(refusal: Refusal) -> usize
-    ensures { result ≡ refusal_number refusal }
+pub fn plain(walk: &mut Walk, answer: Result<State, Refusal>) -> Result<Said, Refusal>
+    ensures number { number_of result ≡ number_of answer }
+    ensures said { said_of result ≡ nothing }
+    ensures walk { walk.new ≡ record walk.old { state = state_after walk.old.state answer } }
 {
-    match refusal {
-        Refusal::Size => 1,
-        Refusal::Store => 2,
-        Refusal::Host => 3,
-        Refusal::Clause => 4,
-        Refusal::Tier => 5,
-        Refusal::Reference => 6,
-        Refusal::Original => 7,
-        Refusal::Asserting => 8,
-        Refusal::Level => 9,
-        Refusal::Open => 10,
-        Refusal::Room => 11,
-        Refusal::Decay => 12,
-    }
+    walk.state = answer?;
+    Ok(Said::Nothing)
 }
 
-// The walk with the state and the trail's used length after a call.
-fn after(walk: Walk, state: State, assigned: usize, number: usize, said: Said) -> Told
-    ensures { (result.number ≡ number) × (result.said ≡ said) × (result.walk.state ≡ state) × (result.walk.assigned ≡ assigned) }
+pub fn added(walk: &mut Walk, answer: Result<Added, Refusal>) -> Result<Said, Refusal>
+    ensures number { number_of result ≡ number_of answer }
+    ensures said { said_of result ≡ added_answer answer }
+    ensures walk { walk.new ≡ record walk.old { state = state_added walk.old.state answer } }
 {
-    let rooms = walk.rooms;
-    Told {
-        walk: Walk {
-            state: state,
-            rooms: rooms,
-            assigned: assigned,
-            level: walk.level,
-            answers: walk.answers,
-        },
-        number: number,
-        said: said,
-    }
+    let added = answer?;
+    walk.state = added.state;
+    Ok(Said::Ref(added.cref.0))
 }
 
-pub fn plain(walk: Walk, reply: PlainReply) -> Told
-    ensures { (result.number ≡ plain_number reply.answer) × (said_answer result.said ≡ nothing) × (result.walk.state ≡ reply.state) × (result.walk.assigned ≡ walk.assigned) }
+pub fn changed(walk: &mut Walk, answer: Result<Changed, Refusal>) -> Result<Said, Refusal>
+    ensures number { number_of result ≡ number_of answer }
+    ensures said { said_of result ≡ changed_answer answer }
+    ensures walk { walk.new ≡ record walk.old { state = state_changed walk.old.state answer } }
 {
-    let state = reply.state;
-    let answer = reply.answer;
-    match answer {
-        Plain::Done => after(walk, state, walk.assigned, 0, Said::Nothing),
-        Plain::Refused(refusal) => after(
-            walk,
-            state,
-            walk.assigned,
-            number_of(refusal),
-            Said::Nothing,
-        ),
-    }
+    let changed = answer?;
+    walk.state = changed.state;
+    Ok(Said::Rebuild(changed.rebuild))
 }
 
-pub fn added(walk: Walk, reply: AddedReply) -> Told
-    ensures { (result.number ≡ added_number reply.answer) × (said_answer result.said ≡ added_answer reply.answer) × (result.walk.state ≡ reply.state) × (result.walk.assigned ≡ walk.assigned) }
+pub fn proved(walk: &mut Walk, answer: Result<Proved, Refusal>) -> Result<Said, Refusal>
+    ensures number { number_of result ≡ number_of answer }
+    ensures said { said_of result ≡ proved_answer answer }
+    ensures walk { walk.new ≡ record walk.old { state = state_proved walk.old.state answer; assigned = assigned_after walk.old.assigned answer } }
 {
-    let state = reply.state;
-    let answer = reply.answer;
-    match answer {
-        Added::At(cref) => after(walk, state, walk.assigned, 0, Said::Ref(cref.0)),
-        Added::Refused(refusal) => after(
-            walk,
-            state,
-            walk.assigned,
-            number_of(refusal),
-            Said::Nothing,
-        ),
-    }
+    let proved = answer?;
+    walk.state = proved.state;
+    walk.assigned = proved.assigned;
+    Ok(Said::New(proved.new_unit))
 }
 
-pub fn changed(walk: Walk, reply: ChangedReply) -> Told
-    ensures { (result.number ≡ changed_number reply.answer) × (said_answer result.said ≡ changed_answer reply.answer) × (result.walk.state ≡ reply.state) × (result.walk.assigned ≡ walk.assigned) }
+pub fn assessed(answer: Result<Assessed, Refusal>) -> Result<Said, Refusal>
+    ensures number { number_of result ≡ number_of answer }
+    ensures said { said_of result ≡ assessed_answer answer }
 {
-    let state = reply.state;
-    let answer = reply.answer;
-    match answer {
-        Changed::Rebuild => after(walk, state, walk.assigned, 0, Said::Rebuild(true)),
-        Changed::Keep => after(walk, state, walk.assigned, 0, Said::Rebuild(false)),
-        Changed::Refused(refusal) => after(
-            walk,
-            state,
-            walk.assigned,
-            number_of(refusal),
-            Said::Nothing,
-        ),
-    }
-}
-
-pub fn proved(walk: Walk, reply: ProvedReply) -> Told
-    ensures { (result.number ≡ proved_number reply.answer) × (said_answer result.said ≡ proved_answer reply.answer) × (result.walk.state ≡ reply.state) × (result.walk.assigned ≡ reply.assigned) }
-{
-    let state = reply.state;
-    let answer = reply.answer;
-    match answer {
-        Proved::NewUnit => after(walk, state, reply.assigned, 0, Said::New(true)),
-        Proved::NoNewUnit => after(walk, state, reply.assigned, 0, Said::New(false)),
-        Proved::Refused(refusal) => after(
-            walk,
-            state,
-            reply.assigned,
-            number_of(refusal),
-            Said::Nothing,
-        ),
-    }
-}
-
-pub fn assessed(walk: Walk, answer: Assessed) -> Told
-    ensures { (result.number ≡ assessed_number answer) × (said_answer result.said ≡ assessed_answer answer) × (result.walk.state ≡ walk.state) × (result.walk.assigned ≡ walk.assigned) }
-{
-    let state = walk.state;
-    match answer {
-        Assessed::As(tier, glue) => after(
-            walk,
-            state,
-            walk.assigned,
-            0,
-            Said::Assessed(tier, glue),
-        ),
-        Assessed::Refused(refusal) => after(
-            walk,
-            state,
-            walk.assigned,
-            number_of(refusal),
-            Said::Nothing,
-        ),
-    }
+    let assessed = answer?;
+    Ok(Said::Assessed(assessed.tier, assessed.glue))
 }

@@ -3,117 +3,143 @@
 
 ghost use Rattle.std.specs.Prelude.{◌<◌, ◌≤◌, length};
 
-use kinds::{ClauseActivity, Place, State, Tier};
+use kinds::{ClauseActivity, ClauseRef, Lit, Refusal, State, Tier};
 use view::HeaderFields;
-use walk_kinds::{Said, Walk, least};
-use walk_text::{put_bytes_list, put_list, put_number, put_text};
+use walk_kinds::{Lent, Said, Walk};
+use walk_text::{Number, Page};
 
 // ---- pieces of lines
 
-fn name(out: &mut [u8], at: usize, op: &[u8]) -> usize {
-    let to = put_text(out, at, b"op=");
-    put_text(out, to, op)
+fn name(page: &mut Page, op: &[u8]) {
+    page.text(b"op=");
+    page.text(op);
 }
 
-fn field(out: &mut [u8], at: usize, label: &[u8], n: usize) -> usize {
-    let to = put_text(out, at, label);
-    put_number(out, to, n)
+fn field(page: &mut Page, label: &[u8], n: usize) {
+    page.text(label);
+    page.number(n);
 }
 
-fn field_line(out: &mut [u8], at: usize, label: &[u8], n: usize) -> usize {
-    let to = field(out, at, label, n);
-    put_text(out, to, b"\n")
+fn field_line(page: &mut Page, label: &[u8], n: usize) {
+    field(page, label, n);
+    page.text(b"\n");
 }
 
-fn list_line(out: &mut [u8], at: usize, label: &[u8], list: &[u32]) -> usize {
-    let to = put_text(out, at, label);
-    let to = put_list(out, to, list);
-    put_text(out, to, b"\n")
+fn list_line<T: Number>(page: &mut Page, label: &[u8], list: &[T]) {
+    page.text(label);
+    page.list(list);
+    page.text(b"\n");
 }
 
 // "A used length above its room prints the list cut at its room."
-fn used_line(out: &mut [u8], at: usize, label: &[u8], list: &[u32], used: usize) -> usize {
-    let n = least(used, list.len());
-    list_line(out, at, label, &list[0..n])
-}
-
-fn bytes_line(out: &mut [u8], at: usize, label: &[u8], list: &[u8], used: usize) -> usize {
-    let n = least(used, list.len());
-    let to = put_text(out, at, label);
-    let to = put_bytes_list(out, to, &list[0..n]);
-    put_text(out, to, b"\n")
-}
-
-fn flag(b: bool) -> usize {
-    if b { 1 } else { 0 }
-}
-
-fn wide(x: u32) -> usize {
-    x as usize
+fn used_line<T: Number>(page: &mut Page, label: &[u8], list: &[T], used: usize) {
+    list_line(page, label, &list[..used.min(list.len())]);
 }
 
 // ---- the answer of a line
 
 // `op=NAME answer=NUMBER`
-pub fn answer(out: &mut [u8], at: usize, op: &[u8], number: usize) -> usize {
-    let to = name(out, at, op);
-    field_line(out, to, b" answer=", number)
+fn numbered(page: &mut Page, op: &[u8], number: usize) {
+    name(page, op);
+    field_line(page, b" answer=", number);
 }
 
-fn accepted_with(out: &mut [u8], at: usize, op: &[u8], label: &[u8], n: usize) -> usize {
-    let to = name(out, at, op);
-    let to = put_text(out, to, b" answer=0");
-    field_line(out, to, label, n)
+fn refused(page: &mut Page, op: &[u8], refusal: Refusal) {
+    numbered(page, op, u32::from(refusal) as usize);
 }
 
-fn assessed(out: &mut [u8], at: usize, op: &[u8], tier: Tier, glue: u32) -> usize {
-    let to = name(out, at, op);
-    let number = tier.number();
-    let to = field(out, to, b" tier=", wide(number));
-    field_line(out, to, b" glue=", wide(glue))
+pub fn unreadable(page: &mut Page) {
+    numbered(page, b"none", 99);
+}
+
+fn accepted_with(page: &mut Page, op: &[u8], label: &[u8], n: usize) {
+    name(page, op);
+    page.text(b" answer=0");
+    field_line(page, label, n);
+}
+
+fn assessed(page: &mut Page, op: &[u8], tier: Tier, glue: u32) {
+    name(page, op);
+    field(page, b" tier=", tier.number() as usize);
+    field_line(page, b" glue=", glue as usize);
 }
 
 // What an accepted line says: `op=long answer=0 ref=R`, `op=delete answer=0 rebuild=B`, `op=units answer=0 new=B`, `op=assess tier=T glue=G`, or `op=NAME answer=0`.
-pub fn accepted(out: &mut [u8], at: usize, op: &[u8], said: Said) -> usize {
+fn accepted(page: &mut Page, op: &[u8], said: Said) {
     match said {
-        Said::Nothing => answer(out, at, op, 0),
-        Said::Ref(offset) => accepted_with(out, at, op, b" ref=", wide(offset)),
-        Said::Rebuild(b) => accepted_with(out, at, op, b" rebuild=", flag(b)),
-        Said::New(b) => accepted_with(out, at, op, b" new=", flag(b)),
-        Said::Assessed(tier, glue) => assessed(out, at, op, tier, glue),
+        Said::Nothing => numbered(page, op, 0),
+        Said::Ref(offset) => accepted_with(page, op, b" ref=", offset as usize),
+        Said::Rebuild(b) => accepted_with(page, op, b" rebuild=", usize::from(b)),
+        Said::New(b) => accepted_with(page, op, b" new=", usize::from(b)),
+        Said::Assessed(tier, glue) => assessed(page, op, tier, glue),
     }
 }
 
+// "A refused line prints `op=NAME answer=NUMBER`"; "an accepted line that prints nothing prints `op=NAME answer=0` and, where listed, its answer" while answers are on; an assessed clause always
+// prints.
+pub fn answer(page: &mut Page, op: &[u8], answer: Result<Said, Refusal>, answers: bool) {
+    match answer {
+        Err(refusal) => refused(page, op, refusal),
+        Ok(Said::Assessed(tier, glue)) => assessed(page, op, tier, glue),
+        Ok(said) if answers => accepted(page, op, said),
+        Ok(_) => {}
+    }
+}
+
+// ---- the literals of a clause, or of the binary clauses with a literal
+
 // `op=NAME lits=..`
-pub fn listed(out: &mut [u8], at: usize, op: &[u8], list: &[u32]) -> usize {
-    let to = name(out, at, op);
-    list_line(out, to, b" lits=", list)
+fn listed(page: &mut Page, op: &[u8], lits: &[u32]) {
+    name(page, op);
+    list_line(page, b" lits=", lits);
+}
+
+pub fn implied(page: &mut Page, state: State, lent: &Lent<'_>, lit: Lit) {
+    match binary_calls::implied_number(state, lent.rows, lent.counts, lit) {
+        Err(refusal) => refused(page, b"implied", refusal),
+        Ok(()) => {
+            let lits = binary_calls::implied(state, lent.rows, lent.counts, lit);
+            listed(page, b"implied", lits);
+        }
+    }
+}
+
+pub fn literals(page: &mut Page, state: State, lent: &Lent<'_>, cref: ClauseRef) {
+    match reading_calls::clause_lits_number(state, lent.words, lent.clauses, cref) {
+        Err(refusal) => refused(page, b"literals", refusal),
+        Ok(()) => {
+            let lits = reading_calls::clause_lits(state, lent.words, lent.clauses, cref);
+            listed(page, b"literals", lits);
+        }
+    }
 }
 
 // ---- show
 
-fn counts_fields(counts: [usize; 4], out: &mut [u8], at: usize) -> usize {
-    let to = field(out, at, b" count0=", counts[0]);
-    let to = field(out, to, b" count1=", counts[1]);
-    let to = field(out, to, b" count2=", counts[2]);
-    field(out, to, b" count3=", counts[3])
+fn counts_fields(page: &mut Page, counts: [usize; 4]) {
+    field(page, b" count0=", counts[0]);
+    field(page, b" count1=", counts[1]);
+    field(page, b" count2=", counts[2]);
+    field(page, b" count3=", counts[3]);
 }
 
+// How many clauses live, whatever the counts.
 fn live(counts: [usize; 4]) -> usize {
-    let low = std::num::wrapping_add_usize(counts[0], counts[1]);
-    let high = std::num::wrapping_add_usize(counts[2], counts[3]);
-    std::num::wrapping_add_usize(low, high)
+    let [irred, core, mid, local] = counts;
+    irred
+        .wrapping_add(core)
+        .wrapping_add(mid)
+        .wrapping_add(local)
 }
 
 // `used`, `garbage` and `record` count words, the rest clauses.
-fn summary(state: State, out: &mut [u8], at: usize) -> usize {
-    let counts = state.counts;
-    let to = field(out, at, b"used=", state.words);
-    let to = field(out, to, b" garbage=", state.garbage);
-    let to = field(out, to, b" live=", live(counts));
-    let to = field(out, to, b" binary=", state.binary);
-    let to = counts_fields(counts, out, to);
-    field_line(out, to, b" record=", state.recorded)
+fn summary(page: &mut Page, state: State) {
+    field(page, b"used=", state.words);
+    field(page, b" garbage=", state.garbage);
+    field(page, b" live=", live(state.counts));
+    field(page, b" binary=", state.binary);
+    counts_fields(page, state.counts);
+    field_line(page, b" record=", state.recorded);
 }
 
 // Where the record's line at a place ends: "Kind, length, literals", cut at the list's end.
@@ -121,215 +147,125 @@ fn line_end(rec: &[u32], i: usize) -> usize
     requires { i < length rec.now }
     ensures { (i < result) × (result ≤ length rec.now) }
 {
-    let n = rec.len();
-    if n - i < 2 {
-        return n;
+    let left = rec.len() - i;
+    if left < 2 {
+        return rec.len();
     }
-    let len = buffers::word(rec, i + 1);
-    if n - i - 2 < len {
-        return n;
-    }
-    i + 2 + len
+    i + 2 + (rec[i + 1] as usize).min(left - 2)
 }
 
-fn record_line(rec: &[u32], i: usize, end: usize, out: &mut [u8], at: usize) -> usize
-    requires { (i < end) × (end ≤ length rec.now) }
-{
-    let to = field(out, at, b"kind=", buffers::word(rec, i));
-    let from = least(i + 2, end);
-    list_line(out, to, b" lits=", &rec[from..end])
+fn record_line(page: &mut Page, line: &[u32]) {
+    if let Some(kind) = line.first() {
+        field(page, b"kind=", *kind as usize);
+        list_line(page, b" lits=", &line[line.len().min(2)..]);
+    }
 }
 
-fn record_lines(rec: &[u32], out: &mut [u8], at: usize) -> usize {
+fn record_lines(page: &mut Page, rec: &[u32]) {
     let mut i = 0;
-    let mut to = at;
+    // no `for`: each line has a length of its own
     while i < rec.len() {
         let end = line_end(rec, i);
-        to = record_line(rec, i, end, out, to);
+        record_line(page, &rec[i..end]);
         i = end;
     }
-    to
 }
 
 // "`show` prints one summary line and the record."
-pub fn show(state: State, rec: &[u32], out: &mut [u8], at: usize) -> usize {
-    let n = least(state.recorded, rec.len());
-    let to = summary(state, out, at);
-    record_lines(&rec[0..n], out, to)
+pub fn show(page: &mut Page, state: State, rec: &[u32]) {
+    summary(page, state);
+    record_lines(page, &rec[..state.recorded.min(rec.len())]);
 }
 
 // ---- dump
 
 // "A NaN's bits print as 2143289344."
 fn float_bits(x: f32) -> usize {
-    if x != x {
-        return 0x7fc0_0000;
-    }
-    wide(f32::to_bits(x))
+    let bits = if x.is_nan() { 0x7fc0_0000 } else { x.to_bits() };
+    bits as usize
 }
 
-fn tiers_fields(tiers: [usize; 4], out: &mut [u8], at: usize) -> usize {
-    let to = field(out, at, b" irred=", tiers[0]);
-    let to = field(out, to, b" core=", tiers[1]);
-    let to = field(out, to, b" mid=", tiers[2]);
-    field(out, to, b" local=", tiers[3])
+fn activity_fields(page: &mut Page, activity: ClauseActivity) {
+    field(page, b" bump=", float_bits(activity.bump));
+    field_line(page, b" inverse=", float_bits(activity.inv_decay));
 }
 
-fn activity_fields(activity: ClauseActivity, out: &mut [u8], at: usize) -> usize {
-    let to = field(out, at, b" bump=", float_bits(activity.bump));
-    field_line(out, to, b" inverse=", float_bits(activity.inv_decay))
+fn used_fields(page: &mut Page, state: State) {
+    let [irred, core, mid, local] = state.tiers;
+    field(page, b"state vars=", state.vars);
+    field(page, b" words=", state.words);
+    field(page, b" clauses=", state.clauses);
+    field(page, b" irred=", irred);
+    field(page, b" core=", core);
+    field(page, b" mid=", mid);
+    field(page, b" local=", local);
+    field(page, b" record=", state.recorded);
 }
 
-fn used_fields(state: State, out: &mut [u8], at: usize) -> usize {
-    let tiers = state.tiers;
-    let to = field(out, at, b"state vars=", state.vars);
-    let to = field(out, to, b" words=", state.words);
-    let to = field(out, to, b" clauses=", state.clauses);
-    let to = tiers_fields(tiers, out, to);
-    field(out, to, b" record=", state.recorded)
+fn state_line(page: &mut Page, state: State) {
+    used_fields(page, state);
+    counts_fields(page, state.counts);
+    field(page, b" garbage=", state.garbage);
+    field(page, b" binary=", state.binary);
+    activity_fields(page, state.activity);
 }
 
-fn state_line(state: State, out: &mut [u8], at: usize) -> usize {
-    let counts = state.counts;
-    let activity = state.activity;
-    let to = used_fields(state, out, at);
-    let to = counts_fields(counts, out, to);
-    let to = field(out, to, b" garbage=", state.garbage);
-    let to = field(out, to, b" binary=", state.binary);
-    activity_fields(activity, out, to)
-}
-
-fn tier_lines(
-    tiers: [usize; 4],
-    irred: &[u32],
-    core: &[u32],
-    mid: &[u32],
-    local: &[u32],
-    out: &mut [u8],
-    at: usize,
-) -> usize {
-    let to = used_line(out, at, b"irred=", irred, tiers[0]);
-    let to = used_line(out, to, b"core=", core, tiers[1]);
-    let to = used_line(out, to, b"mid=", mid, tiers[2]);
-    used_line(out, to, b"local=", local, tiers[3])
-}
-
-fn clause_lines(
-    state: State,
-    words: &[u32],
-    clauses: &[u32],
-    irred: &[u32],
-    core: &[u32],
-    mid: &[u32],
-    local: &[u32],
-    out: &mut [u8],
-    at: usize,
-) -> usize {
-    let tiers = state.tiers;
-    let to = state_line(state, out, at);
-    let to = used_line(out, to, b"words=", words, state.words);
-    let to = used_line(out, to, b"clauses=", clauses, state.clauses);
-    tier_lines(tiers, irred, core, mid, local, out, to)
+fn clause_lines(page: &mut Page, state: State, lent: &Lent<'_>) {
+    let [irred, core, mid, local] = state.tiers;
+    used_line(page, b"words=", lent.words, state.words);
+    used_line(page, b"clauses=", lent.clauses, state.clauses);
+    used_line(page, b"irred=", lent.irred, irred);
+    used_line(page, b"core=", lent.core, core);
+    used_line(page, b"mid=", lent.mid, mid);
+    used_line(page, b"local=", lent.local, local);
 }
 
 // "each row's room being its length over 2V, rounded down"; 0 where V is 0.
 fn row_room(vars: usize, len: usize) -> usize {
-    if vars == 0 {
-        return 0;
-    }
-    len / 2 / vars
+    if vars == 0 { 0 } else { len / 2 / vars }
 }
 
 // A row with a count above 0.
-fn row_line(code: usize, count: usize, row: &[u32], out: &mut [u8], at: usize) -> usize {
-    if count == 0 {
-        return at;
+fn row_line(page: &mut Page, code: usize, count: usize, row: &[u32]) {
+    if count > 0 {
+        field(page, b"row=", code);
+        used_line(page, b" lits=", row, count);
     }
-    let to = field(out, at, b"row=", code);
-    used_line(out, to, b" lits=", row, count)
 }
 
-fn row_lines(vars: usize, rows: &[u32], counts: &[u32], out: &mut [u8], at: usize) -> usize {
+fn row_lines(page: &mut Page, vars: usize, rows: &[u32], counts: &[u32]) {
     if vars == 0 {
-        return at;
+        return;
     }
     let room = row_room(vars, rows.len());
-    let mut code = 0;
-    let mut start = 0;
-    let mut to = at;
-    while code < counts.len() {
-        if rows.len() - start < room {
-            return to;
-        }
-        let end = start + room;
-        to = row_line(
-            code,
-            buffers::word(counts, code),
-            &rows[start..end],
-            out,
-            to,
-        );
-        start = end;
-        code += 1;
+    let mut rest = rows;
+    for (code, count) in counts.iter().enumerate() {
+        let Some((row, behind)) = rest.split_at_checked(room) else {
+            return;
+        };
+        row_line(page, code, *count as usize, row);
+        rest = behind;
     }
-    to
 }
 
-fn host_lines(
-    vars: usize,
-    assigned: usize,
-    values: &[u8],
-    kinds: &[u8],
-    reasons: &[u32],
-    levels: &[u32],
-    trail: &[u32],
-    out: &mut [u8],
-    at: usize,
-) -> usize {
-    let to = bytes_line(out, at, b"values=", values, vars);
-    let to = bytes_line(out, to, b"kinds=", kinds, vars);
-    let to = used_line(out, to, b"reasons=", reasons, vars);
-    let to = used_line(out, to, b"levels=", levels, vars);
-    used_line(out, to, b"trail=", trail, assigned)
+fn host_lines(page: &mut Page, walk: &Walk, lent: &Lent<'_>) {
+    let vars = walk.state.vars;
+    used_line(page, b"values=", lent.values, vars);
+    used_line(page, b"kinds=", lent.kinds, vars);
+    used_line(page, b"reasons=", lent.reasons, vars);
+    used_line(page, b"levels=", lent.levels, vars);
+    used_line(page, b"trail=", lent.trail, walk.assigned);
+    field_line(page, b"level=", walk.level);
 }
 
-// All of the store and the host side. Each slice is what is lent of its buffer.
-pub fn dump(
-    walk: Walk,
-    words: &[u32],
-    clauses: &[u32],
-    irred: &[u32],
-    core: &[u32],
-    mid: &[u32],
-    local: &[u32],
-    rows: &[u32],
-    counts: &[u32],
-    rec: &[u32],
-    values: &[u8],
-    kinds: &[u8],
-    reasons: &[u32],
-    levels: &[u32],
-    trail: &[u32],
-    out: &mut [u8],
-    at: usize,
-) -> usize {
+// All of the store and the host side.
+pub fn dump(page: &mut Page, walk: &Walk, lent: &Lent<'_>) {
     let state = walk.state;
-    let vars = state.vars;
-    let to = clause_lines(state, words, clauses, irred, core, mid, local, out, at);
-    let to = row_lines(vars, rows, counts, out, to);
-    let to = used_line(out, to, b"record=", rec, state.recorded);
-    let to = host_lines(
-        vars,
-        walk.assigned,
-        values,
-        kinds,
-        reasons,
-        levels,
-        trail,
-        out,
-        to,
-    );
-    field_line(out, to, b"level=", walk.level)
+    state_line(page, state);
+    clause_lines(page, state, lent);
+    row_lines(page, state.vars, lent.rows, lent.counts);
+    used_line(page, b"record=", lent.rec, state.recorded);
+    host_lines(page, walk, lent);
 }
 
 // ---- tails
@@ -337,97 +273,48 @@ pub fn dump(
 fn nonzero(list: &[u32]) -> usize
     ensures { result ≤ length list.now }
 {
-    let mut i = 0;
-    let mut n = 0;
-    while i < list.len() {
-        let x = list[i];
-        i += 1;
-        if x != 0 {
-            n += 1;
-        }
-    }
-    n
+    list.iter().filter(|x| **x != 0).count()
 }
 
 // "of each lent buffer, how many numbers behind its used part .. are not 0"
 fn behind(list: &[u32], used: usize) -> usize
     ensures { result ≤ length list.now }
 {
-    let from = least(used, list.len());
-    nonzero(&list[from..])
+    nonzero(&list[used.min(list.len())..])
 }
 
 // The numbers that are not 0 in no row's filled part, also behind the last row.
 fn rows_behind(vars: usize, rows: &[u32], counts: &[u32]) -> usize {
     let room = row_room(vars, rows.len());
-    let mut code = 0;
-    let mut start = 0;
+    let mut rest = rows;
     let mut n = 0;
-    while code < counts.len() {
-        if rows.len() - start < room {
-            return n + nonzero(&rows[start..]);
-        }
-        let end = start + room;
-        n += behind(&rows[start..end], buffers::word(counts, code));
-        start = end;
-        code += 1;
+    for count in counts {
+        let Some((row, after)) = rest.split_at_checked(room) else {
+            break;
+        };
+        n += behind(row, *count as usize);
+        rest = after;
     }
-    n + nonzero(&rows[start..])
+    n + nonzero(rest)
 }
 
-fn tier_tails(
-    tiers: [usize; 4],
-    irred: &[u32],
-    core: &[u32],
-    mid: &[u32],
-    local: &[u32],
-    out: &mut [u8],
-    at: usize,
-) -> usize {
-    let to = field(out, at, b" irred=", behind(irred, tiers[0]));
-    let to = field(out, to, b" core=", behind(core, tiers[1]));
-    let to = field(out, to, b" mid=", behind(mid, tiers[2]));
-    field(out, to, b" local=", behind(local, tiers[3]))
-}
-
-fn clause_tails(
-    state: State,
-    words: &[u32],
-    clauses: &[u32],
-    irred: &[u32],
-    core: &[u32],
-    mid: &[u32],
-    local: &[u32],
-    out: &mut [u8],
-    at: usize,
-) -> usize {
-    let tiers = state.tiers;
-    let to = field(out, at, b"op=tails words=", behind(words, state.words));
-    let to = field(out, to, b" clauses=", behind(clauses, state.clauses));
-    tier_tails(tiers, irred, core, mid, local, out, to)
-}
-
-// What lies behind the used parts. Each slice is what is lent of its buffer.
-pub fn tails(
-    walk: Walk,
-    words: &[u32],
-    clauses: &[u32],
-    irred: &[u32],
-    core: &[u32],
-    mid: &[u32],
-    local: &[u32],
-    rows: &[u32],
-    counts: &[u32],
-    rec: &[u32],
-    trail: &[u32],
-    out: &mut [u8],
-    at: usize,
-) -> usize {
+// What lies behind the used parts.
+pub fn tails(page: &mut Page, walk: &Walk, lent: &Lent<'_>) {
     let state = walk.state;
-    let to = clause_tails(state, words, clauses, irred, core, mid, local, out, at);
-    let to = field(out, to, b" rows=", rows_behind(state.vars, rows, counts));
-    let to = field(out, to, b" record=", behind(rec, state.recorded));
-    field_line(out, to, b" trail=", behind(trail, walk.assigned))
+    let [irred, core, mid, local] = state.tiers;
+    field(page, b"op=tails words=", behind(lent.words, state.words));
+    field(page, b" clauses=", behind(lent.clauses, state.clauses));
+    field(page, b" irred=", behind(lent.irred, irred));
+    field(page, b" core=", behind(lent.core, core));
+    field(page, b" mid=", behind(lent.mid, mid));
+    field(page, b" local=", behind(lent.local, local));
+    field(
+        page,
+        b" rows=",
+        rows_behind(state.vars, lent.rows, lent.counts),
+    );
+    field(page, b" record=", behind(lent.rec, state.recorded));
+    field_line(page, b" trail=", behind(lent.trail, walk.assigned));
 }
 
 // ---- the view
@@ -435,65 +322,43 @@ pub fn tails(
 // The bits of an activity word; those of a NaN print as 2143289344.
 fn word_bits(bits: u32) -> usize {
     if bits % 0x8000_0000 > 0x7f80_0000 {
-        return 0x7fc0_0000;
+        0x7fc0_0000
+    } else {
+        bits as usize
     }
-    wide(bits)
 }
 
-fn tier_and_flags(header: HeaderFields, out: &mut [u8], at: usize) -> usize {
-    let tier = header.tier;
-    let number = tier.number();
-    let to = field(out, at, b" tier=", wide(number));
-    let to = field(out, to, b" deleted=", flag(header.deleted));
-    field(out, to, b" mark=", flag(header.mark))
-}
-
-fn header_fields(header: HeaderFields, out: &mut [u8], at: usize) -> usize {
-    let to = field(out, at, b"op=view activity=", word_bits(header.activity));
-    let to = tier_and_flags(header, out, to);
-    let to = field(out, to, b" glue=", wide(header.glue));
-    let to = field(out, to, b" active=", flag(header.active));
-    field(out, to, b" length=", wide(header.len))
-}
-
-// A literal, with a comma before it where it isn't the first.
-fn put_literal(place: usize, code: u32, out: &mut [u8], at: usize) -> usize {
-    if place == 0 {
-        return put_number(out, at, wide(code));
-    }
-    field(out, at, b",", wide(code))
+fn header_fields(page: &mut Page, header: HeaderFields) {
+    field(page, b"op=view activity=", word_bits(header.activity));
+    field(page, b" tier=", header.tier.number() as usize);
+    field(page, b" deleted=", usize::from(header.deleted));
+    field(page, b" mark=", usize::from(header.mark));
+    field(page, b" glue=", header.glue as usize);
+    field(page, b" active=", usize::from(header.active));
+    field(page, b" length=", header.len as usize);
 }
 
 // "the literals of places 0, 1, .. that have one"
-fn view_literals(words: &[u32], out: &mut [u8], at: usize) -> usize {
-    let mut place = 0;
-    let mut to = at;
-    while place < words.len() {
-        let here = view::view_literal(words, place);
-        let Place::Holds(lit) = here else {
-            return to;
+fn view_literals(page: &mut Page, words: &[u32]) {
+    for place in 0..words.len() {
+        let Some(lit) = view::view_literal(words, place) else {
+            return;
         };
-        to = put_literal(place, lit.0, out, to);
-        place += 1;
+        if place > 0 {
+            page.text(b",");
+        }
+        page.number(lit.0 as usize);
     }
-    to
-}
-
-fn viewed(words: &[u32], out: &mut [u8], at: usize) -> usize {
-    let header = view::view_fields(words);
-    let to = header_fields(header, out, at);
-    let to = put_text(out, to, b" lits=");
-    let to = view_literals(words, out, to);
-    put_text(out, to, b"\n")
 }
 
 // A clause view over words `from` to `end` of the lent word buffer: "A at most B, B at most its length, else answer 4".
-pub fn view_line(words: &[u32], from: usize, end: usize, out: &mut [u8], at: usize) -> usize {
-    if from > end {
-        return answer(out, at, b"view", 4);
+pub fn view(page: &mut Page, words: &[u32], from: usize, end: usize) {
+    if from > end || end > words.len() {
+        return refused(page, b"view", Refusal::Clause);
     }
-    if end > words.len() {
-        return answer(out, at, b"view", 4);
-    }
-    viewed(&words[from..end], out, at)
+    let clause = &words[from..end];
+    header_fields(page, view::view_fields(clause));
+    page.text(b" lits=");
+    view_literals(page, clause);
+    page.text(b"\n");
 }

@@ -1,12 +1,9 @@
 -- Text laid on a page of bytes.
 use Rattle.std.specs.Prelude.{List, ℕ, ◌+◌, min, length}
 use Rattle.std.proofs.lemmas.List.Edits.{sets}
+use Rattle.walk_text.specs.declared.Page.{Page}
 
 -- the bytes, and the place where the next text goes
-pub record Page : Type 0 where
-  pub bytes : List ℕ
-  pub next : ℕ
-
 abbrev pub page : List ℕ → ℕ → Page
 page bytes next = record { bytes = bytes; next = next }
 

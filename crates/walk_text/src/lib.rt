@@ -1,38 +1,77 @@
-// Text, numbers and lists written to a lent page, never beyond its end.
+// Text, numbers and lists written to a page, never beyond its end.
 #![tactic(auto)]
 
-ghost use Rattle.std.specs.Prelude.{◌≡◌, ◌∷◌, ◌+◌, ◌%◌, ◌<◌, min, length, drop};
+ghost use Rattle.std.specs.Prelude.{◌≡◌, ℕ, List, ◌∷◌, ◌++◌, ◌+◌, ◌%◌, ◌<◌, map, length, drop};
 ghost use Rattle.walk_text.specs.Page.{page, written};
 ghost use Rattle.walk_text.specs.Numbers.{decimal, commas};
 
-fn least(a: usize, b: usize) -> usize
-    ensures { result ≡ min a b }
-{
-    if a < b { a } else { b }
+// A page, and the place where the next text goes.
+#[derive(Drop)]
+pub struct Page {
+    pub bytes: [u8; 1048576],
+    pub next: usize,
 }
 
-// A text from a place on, cut at the page's end. Returns the place behind it.
+// What prints as a number.
+pub trait Number: Copy {
+    ghost value: { Self → ℕ };
+
+    fn value(self) -> usize
+        ensures { result ≡ value self };
+}
+
+impl Number for u8 {
+    ghost value = { λ n. n };
+
+    fn value(self) -> usize {
+        self as usize
+    }
+}
+
+impl Number for u32 {
+    ghost value = { λ n. n };
+
+    fn value(self) -> usize {
+        self as usize
+    }
+}
+
+impl Page {
+    // A text, cut at the page's end.
+    pub fn text(&mut self, text: &[u8])
+        ensures { self.new ≡ written text.now self.old }
+    {
+        self.next = put_text(&mut self.bytes, self.next, text);
+    }
+
+    pub fn number(&mut self, n: usize)
+        ensures { self.new ≡ written (decimal n) self.old }
+    {
+        self.next = put_number(&mut self.bytes, self.next, n);
+    }
+
+    pub fn list<T: Number>(&mut self, list: &[T])
+        ensures { self.new ≡ written (commas (map T.value list.now)) self.old }
+    {
+        self.next = put_list(&mut self.bytes, self.next, list);
+    }
+}
+
+// A text from a place on, cut at the end. Returns the place behind it.
 pub fn put_text(out: &mut [u8], at: usize, text: &[u8]) -> usize
     ensures { page out.new result ≡ written text.now (page out.old at) }
 {
-    let mut to = least(at, out.len());
-    let mut i = 0;
-    while i < text.len() {
-        if to >= out.len() {
-            return to;
-        }
-        out[to] = text[i];
-        i += 1;
-        to += 1;
-    }
-    to
+    let from = at.min(out.len());
+    let n = text.len().min(out.len() - from);
+    out[from..from + n].copy_from_slice(&text[..n]);
+    from + n
 }
 
 // The last digit of n.
 fn digit(n: usize) -> u8
     ensures { result ≡ 48 + n % 10 }
 {
-    48 + (n % 10) as u8
+    b'0' + (n % 10) as u8
 }
 
 // n in decimal at the end of the text. Returns where it begins.
@@ -42,6 +81,7 @@ fn spell(n: usize, text: &mut [u8; 20]) -> usize
 {
     let mut i = 19;
     let mut rest = n;
+    // no `for`: how many digits there are shows as they come
     while rest >= 10 {
         text[i] = digit(rest);
         rest /= 10;
@@ -54,7 +94,7 @@ fn spell(n: usize, text: &mut [u8; 20]) -> usize
 pub fn put_number(out: &mut [u8], at: usize, n: usize) -> usize
     ensures { page out.new result ≡ written (decimal n) (page out.old at) }
 {
-    let mut text = [0u8; 20];
+    let mut text = [0; 20];
     let from = spell(n, &mut text);
     put_text(out, at, &text[from..])
 }
@@ -67,32 +107,15 @@ fn put_further(out: &mut [u8], at: usize, n: usize) -> usize
     put_number(out, to, n)
 }
 
-pub fn put_list(out: &mut [u8], at: usize, list: &[u32]) -> usize
-    ensures { page out.new result ≡ written (commas list.now) (page out.old at) }
+pub fn put_list<T: Number>(out: &mut [u8], at: usize, list: &[T]) -> usize
+    ensures { page out.new result ≡ written (commas (map T.value list.now)) (page out.old at) }
 {
-    if list.len() == 0 {
-        return least(at, out.len());
-    }
-    let mut to = put_number(out, at, list[0] as usize);
-    let mut i = 1;
-    while i < list.len() {
-        to = put_further(out, to, list[i] as usize);
-        i += 1;
-    }
-    to
-}
-
-pub fn put_bytes_list(out: &mut [u8], at: usize, list: &[u8]) -> usize
-    ensures { page out.new result ≡ written (commas list.now) (page out.old at) }
-{
-    if list.len() == 0 {
-        return least(at, out.len());
-    }
-    let mut to = put_number(out, at, list[0] as usize);
-    let mut i = 1;
-    while i < list.len() {
-        to = put_further(out, to, list[i] as usize);
-        i += 1;
+    let Some((first, rest)) = list.split_first() else {
+        return put_text(out, at, b"");
+    };
+    let mut to = put_number(out, at, first.value());
+    for n in rest {
+        to = put_further(out, to, n.value());
     }
     to
 }

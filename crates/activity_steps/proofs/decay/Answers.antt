@@ -1,17 +1,13 @@
-use mathlib.Core.Path.{◌≡◌}
-use lib.ListN.{length}
+use Rattle.std.proofs.Common.{◌≡◌, length, rules}
 use Rattle.activity_steps.proofs.Decaying.{decay_ready, decay_laid}
-use borrow.Author.Rules.{rules}
 use Rattle.activity_steps.proofs.decay.Goals as goal
+use Rattle.activity_steps.proofs.decay.Goals.{Start}
+
+four : (c : Start) → length c.args.s.tiers ≡ 4
+four c = search rules
 
 pub decay_activity-left-requires : goal.decay_activity-left-requires
-decay_activity-left-requires c =
-    let four_lengths : length c.args.s.tiers ≡ 4 = search rules in
-    let a = c.args in
-    decay_ready a.s a.words.now a.clauses.now a.irred.now a.core.now a.mid.now a.local.now (four_lengths) c.requires
+decay_activity-left-requires c = decay_ready _ _ _ _ _ _ _ (four (goal.at.decay_activity-left-requires c).Start) c.requires
 
 pub returns : goal.returns
-returns c =
-    let four_lengths : length c.args.s.tiers ≡ 4 = search rules in
-    let a = c.args in
-    decay_laid a.s a.words.now a.clauses.now a.irred.now a.core.now a.mid.now a.local.now (four_lengths) c.requires _ c.decay_activity-left.ensures
+returns c = decay_laid _ _ _ _ _ _ _ (four (goal.at.returns c).Start) c.requires _ c.decay_activity-left.ensures

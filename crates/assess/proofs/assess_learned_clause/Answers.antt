@@ -1,10 +1,16 @@
-use mathlib.Core.Path.{refl}
+use mathlib.Core.Path.{ap, ◌∙◌}
+use Prim.Native.Nat.{ℕ, ◌-◌}
 use native.Mathlib.Omega.{arith}
-use Rattle.assess.proofs.Glue.{glue_positive, assessed_as}
+use Rattle.kinds.specs.Header.{saturated}
+use Rattle.calls.specs.Bumping.{tier_for, learned_glue}
+use Rattle.assess.proofs.Glue.{glue_positive}
 use Rattle.assess.proofs.assess_learned_clause.Goals as goal
 
 pub overflow_sub-glue : goal.overflow_sub-glue
 overflow_sub-glue c = omega (arith, glue_positive c.args.levels.now c.args.lits.now c.requires.1, c.compute_glue-glue.ensures)
 
 pub returns : goal.returns
-returns c = (refl, assessed_as c.args.levels.now c.args.lits.now c.compute_glue-glue.result _ _ c.compute_glue-glue.ensures c.select_tier-tier.ensures c.saturate-bits.ensures.0)
+unfolding learned_glue
+returns c =
+    let e = ap (λ (n : ℕ). n - 1) c.compute_glue-glue.ensures in
+    (c.select_tier.ensures ∙ ap tier_for e, c.saturate.ensures.0 ∙ ap saturated e)

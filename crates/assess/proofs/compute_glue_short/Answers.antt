@@ -1,22 +1,24 @@
-use native.Mathlib.Omega.{arith}
-use mathlib.Core.Path.{ap, ◌∙◌, sym}
-use Prim.Native.Nat.{◌-◌}
-use native.Mathlib.Nat.{le_antisymm}
-use Rattle.laws.specs.Fold.{count_below}
-use Rattle.laws.proofs.Folds.{count_none}
+use Rattle.std.proofs.Common.{sym, ap, ◌∙◌, ◌≡◌, length, arith}
+use Rattle.laws.specs.Fold.{one}
+use Rattle.laws.proofs.Folds.{count_none, count_more, count_le}
 use Rattle.calls.specs.Bumping.{level_new, glue_for}
-use Rattle.assess.proofs.Short.{counted_yes, counted_no}
 use Rattle.assess.proofs.compute_glue_short.Goals as goal
+use Rattle.assess.proofs.compute_glue_short.Goals.{then-level_new, else-level_new}
 
-pub loop-i-init : goal.loop-i-init
-loop-i-init c = (omega arith, omega arith, sym (count_none _))
+pub loop-j-init : goal.loop-j-init
+loop-j-init c = sym (count_none _)
 
-pub loop-i-preserved-then-new : goal.loop-i-preserved-then-new
-loop-i-preserved-then-new c = (omega arith, omega arith, counted_yes _ _ c.loop-i.i c.loop-i.invariant.2 c.level_new-new.ensures c.if-new.true)
+pub overflow_add-glue : goal.overflow_add-glue
+overflow_add-glue c = omega (arith, count_le (level_new c.args.levels.now c.args.lits.now) c.loop-j.j)
 
-pub loop-i-preserved : goal.loop-i-preserved
-loop-i-preserved c = (omega arith, omega arith, counted_no _ _ c.loop-i.i c.loop-i.invariant.2 c.level_new-new.ensures c.if-new.false)
+pub loop-j-preserved : goal.loop-j-preserved
+loop-j-preserved c =
+    let more = count_more (level_new c.args.levels.now c.args.lits.now) c.loop-j.j in
+    elim c.if-level_new.branch [
+      | then-level_new w ↦ let new = ap one (sym c.level_new.ensures ∙ w.if-level_new.true) in omega arith
+      | else-level_new w ↦ let old = ap one (sym c.level_new.ensures ∙ w.if-level_new.false) in omega arith
+    ]
 
 pub returns : goal.returns
 unfolding glue_for
-returns c = let l = c.loop-i in l.invariant.2 ∙ ap (count_below (level_new c.args.levels.now c.args.lits.now)) (le_antisymm l.invariant.0 c.loop-i-test.false)
+returns c = let e : c.loop-j.j ≡ length c.args.lits.now = omega arith in rw e at c.loop-j.invariant

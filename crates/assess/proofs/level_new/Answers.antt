@@ -1,16 +1,18 @@
-use native.Mathlib.Omega.{arith}
-use Prim.Native.Nat.{◌-◌}
-use Rattle.assess.proofs.Short.{new_none, new_more, new_not, new_end}
+use Rattle.std.proofs.Common.{ℕ, sym, arith, length-take}
+use Rattle.laws.proofs.Folds.{all_none, all_more, all_end}
+use Rattle.calls.specs.Bumping.{level_new}
+use Rattle.assess.proofs.Short.{other_level, same_level}
 use Rattle.assess.proofs.level_new.Goals as goal
 
-pub loop-k-init : goal.loop-k-init
-loop-k-init c = (omega arith, new_none _ _ _)
+pub loop-lit-init : goal.loop-lit-init
+loop-lit-init c = all_none _
 
 pub returns-then-levels-var : goal.returns-then-levels-var
-returns-then-levels-var c = new_not c.args.levels.now c.args.lits.now c.args.j c.loop-k.k c.loop-k-test.true c.if-levels-var.true
+returns-then-levels-var c = sym (same_level _ _ _ _ c.loop-lit-test.true c.if-levels-var.true)
 
-pub loop-k-preserved : goal.loop-k-preserved
-loop-k-preserved c = (omega arith, new_more c.args.levels.now c.args.lits.now c.args.j c.loop-k.k c.loop-k.invariant.1 c.if-levels-var.false)
+pub loop-lit-preserved : goal.loop-lit-preserved
+loop-lit-preserved c = all_more _ _ c.loop-lit.invariant (other_level _ _ _ _ c.loop-lit-test.true c.if-levels-var.false)
 
 pub returns : goal.returns
-returns c = new_end _ _ _ c.loop-k.k c.loop-k.invariant.1 c.loop-k.invariant.0 c.loop-k-test.false
+unfolding level_new
+returns c = all_end _ _ _ c.loop-lit.invariant (omega (arith, length-take {A = ℕ})) (omega (arith, length-take {A = ℕ}))

@@ -1,9 +1,7 @@
-use Prim.Native.Nat.{◌-◌, ◌≤◌}
-use Rattle.assess.proofs.Short.{New}
+use Rattle.std.proofs.Common.{◌≡◌, true}
+use Rattle.laws.specs.Fold.{all_below}
+use Rattle.calls.specs.Bumping.{level_apart}
 use Rattle.assess.proofs.level_new.Given as goal
 
-abbrev pub invariant-loop-k : goal.invariant-loop-k
-invariant-loop-k l = (l.k ≤ l.j) × New l.levels l.lits l.j l.k
-
-abbrev pub decreases-loop-k : goal.decreases-loop-k
-decreases-loop-k l = l.j - l.k
+abbrev pub invariant-loop-lit : goal.invariant-loop-lit
+invariant-loop-lit l = all_below (level_apart l.levels l.lits l.j) l.lit-index ≡ true

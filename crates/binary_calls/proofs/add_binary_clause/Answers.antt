@@ -1,29 +1,30 @@
-use Rattle.binary_calls.proofs.Pair.{lends, add_refused, added}
-use Rattle.kinds.specs.Lent.{lent_rows}
-use Rattle.calls.specs.Call.{add_binary, only_rows}
-use Rattle.replies.proofs.Ways.{judge_number, judge_told}
-use borrow.Author.Rules.{rules}
+use mathlib.Core.Path.{refl}
+use Rattle.std.proofs.lemmas.Result.{err_from_is_err_and}
+use Rattle.kinds.specs.Lent.{Lent, lent_rows}
+use Rattle.calls.specs.Call.{add_binary, parts}
+use Rattle.calls.specs.Outcome.{nothing, step, answer}
+use Rattle.replies.proofs.Ways.{judge_told, own_told, step_told}
 use Rattle.binary_calls.proofs.add_binary_clause.Goals as goal
 
-pub refusal_of-requires : goal.refusal_of-requires
-refusal_of-requires c =
+pub returns-in_err-judge_rows : goal.returns-in_err-judge_rows
+unfolding parts
+returns-in_err-judge_rows c =
     let a = c.args in
-    judge_number (add_binary a.lits.now) only_rows (lends a.s a.rows.now a.counts.now a.lits.now) (lent_rows a.s a.rows.now a.counts.now) _ c.judge_rows-judging.ensures c.if-judging-ne0.true
+    let k : Lent = lent_rows a.s a.rows.now a.counts.now in
+    let p = err_from_is_err_and c.from_residual.result c.from_residual.ensures.1 in
+    rw (p.1, p.2) (judge_told (add_binary a.lits.now) k c.in_err-judge_rows.field-0.0 c.in_err-judge_rows.ensures)
 
-pub returns-then-judging-ne0 : goal.returns-then-judging-ne0
-returns-then-judging-ne0 c =
+pub returns-in_err-refuse_add_binary_clause : goal.returns-in_err-refuse_add_binary_clause
+unfolding parts
+returns-in_err-refuse_add_binary_clause c =
     let a = c.args in
-    judge_told (add_binary a.lits.now) only_rows (lends a.s a.rows.now a.counts.now a.lits.now) (lent_rows a.s a.rows.now a.counts.now) _ c.judge_rows-judging.ensures c.if-judging-ne0.true c.refusal_of.result c.refusal_of.ensures
-
-pub returns-then-refusal-ne0 : goal.returns-then-refusal-ne0
-returns-then-refusal-ne0 c =
-    let a = c.args in
-    add_refused a.s a.rows.now a.counts.now a.lits.now _ c.judge_rows-judging.ensures c.if-judging-ne0.false _ c.refuse_add_binary_clause-refusal.ensures.0 c.if-refusal-ne0.true c.refusal_of-then-refusal-ne0.result c.refusal_of-then-refusal-ne0.ensures
-
-pub append_binary_clause-state-requires : goal.append_binary_clause-state-requires
-append_binary_clause-state-requires c = record { counts_value = search rules; counts_value_2 = search rules }
+    let k : Lent = lent_rows a.s a.rows.now a.counts.now in
+    let p = err_from_is_err_and c.from_residual-in_err-refuse_add_binary_clause.result c.from_residual-in_err-refuse_add_binary_clause.ensures.1 in
+    rw (p.1, p.2) (own_told (add_binary a.lits.now) k c.in_ok-judge_rows.ensures c.in_err-refuse_add_binary_clause.field-0.0 c.in_err-refuse_add_binary_clause.ensures)
 
 pub returns : goal.returns
+unfolding parts step answer
 returns c =
     let a = c.args in
-    added a.s a.rows.now a.counts.now a.lits.now _ c.judge_rows-judging.ensures c.if-judging-ne0.false _ c.refuse_add_binary_clause-refusal.ensures.0 c.if-refusal-ne0.false _ c.append_binary_clause-state.ensures
+    let k : Lent = lent_rows a.s a.rows.now a.counts.now in
+    step_told (add_binary a.lits.now) k c.in_ok-judge_rows.ensures c.in_ok-refuse_add_binary_clause.ensures c.append_binary_clause.ensures nothing refl

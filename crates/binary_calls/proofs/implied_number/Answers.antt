@@ -1,33 +1,32 @@
+use mathlib.Core.Path.{refl}
 use native.Mathlib.Omega.{arith}
-use Rattle.binary_calls.proofs.Reading.{lends, number_wrong, number_read, ready}
+use Rattle.binary_calls.proofs.Reading.{number_wrong, number_read, ready}
 use Rattle.kinds.specs.Lent.{lent_rows}
-use Rattle.calls.specs.Call.{implied, only_rows}
-use Rattle.replies.proofs.Ways.{judge_number, judge_number_told}
+use Rattle.calls.specs.Call.{implied, parts}
+use Rattle.std.proofs.lemmas.Result.{err_from_is_err_and}
+use Rattle.replies.proofs.Ways.{judge_number_told}
 use Rattle.binary_calls.proofs.implied_number.Goals as goal
 
-pub refusal_of-requires : goal.refusal_of-requires
-refusal_of-requires c =
+pub returns-in_err-judge_rows : goal.returns-in_err-judge_rows
+unfolding parts
+returns-in_err-judge_rows c =
     let a = c.args in
-    judge_number (implied a.lit.0) only_rows (lends a.s a.rows.now a.counts.now a.lit.0) (lent_rows a.s a.rows.now a.counts.now) _ c.judge_rows-judging.ensures c.if-judging-ne0.true
+    let p = err_from_is_err_and c.from_residual.result c.from_residual.ensures.1 in
+    rw (p.1, p.2) (judge_number_told (implied a.lit.0) (lent_rows a.s a.rows.now a.counts.now) c.in_err-judge_rows.field-0.0 c.in_err-judge_rows.ensures)
 
-pub returns-then-judging-ne0 : goal.returns-then-judging-ne0
-returns-then-judging-ne0 c =
+pub overflow_mul-s : goal.overflow_mul-s
+overflow_mul-s c =
     let a = c.args in
-    judge_number_told (implied a.lit.0) only_rows (lends a.s a.rows.now a.counts.now a.lit.0) (lent_rows a.s a.rows.now a.counts.now) _ c.judge_rows-judging.ensures c.if-judging-ne0.true c.refusal_of.result c.refusal_of.ensures
-
-pub overflow_mul-vars : goal.overflow_mul-vars
-overflow_mul-vars c =
-    let a = c.args in
-    let r = ready a.s a.rows.now a.counts.now a.lit.0 _ c.judge_rows-judging.ensures c.if-judging-ne0.false in
+    let r = ready a.s a.rows.now a.counts.now a.lit.0 0 c.in_ok-judge_rows.ensures refl in
     let h = r.high in
     omega arith
 
-pub returns-then-vars-lit : goal.returns-then-vars-lit
-returns-then-vars-lit c =
+pub returns-then-s-lit : goal.returns-then-s-lit
+returns-then-s-lit c =
     let a = c.args in
-    number_wrong a.s a.rows.now a.counts.now a.lit.0 _ c.judge_rows-judging.ensures c.if-judging-ne0.false c.if-vars-lit.true
+    number_wrong a.s a.rows.now a.counts.now a.lit.0 0 c.in_ok-judge_rows.ensures refl c.if-s-lit.true
 
-pub returns : goal.returns
-returns c =
+pub returns-else-s-lit : goal.returns-else-s-lit
+returns-else-s-lit c =
     let a = c.args in
-    number_read a.s a.rows.now a.counts.now a.lit.0 _ c.judge_rows-judging.ensures c.if-judging-ne0.false c.if-vars-lit.false
+    number_read a.s a.rows.now a.counts.now a.lit.0 0 c.in_ok-judge_rows.ensures refl c.if-s-lit.false

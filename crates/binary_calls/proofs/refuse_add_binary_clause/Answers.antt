@@ -14,7 +14,7 @@ use Rattle.binary_calls.proofs.refuse_add_binary_clause.Goals as goal
 pub returns-then-lits-ne2 : goal.returns-then-lits-ne2
 returns-then-lits-ne2 c =
     let a = c.args in
-    (own_wrong a.s a.rows.now a.counts.now a.lits.now (length_wrong a.s a.rows.now a.counts.now a.lits.now c.if-lits-ne2.true), omega arith)
+    own_wrong a.s a.rows.now a.counts.now a.lits.now (length_wrong a.s a.rows.now a.counts.now a.lits.now c.if-lits-ne2.true)
 
 pub lits_pass-requires : goal.lits_pass-requires
 lits_pass-requires c =
@@ -24,7 +24,7 @@ lits_pass-requires c =
 pub returns-then-not-lits_pass : goal.returns-then-not-lits_pass
 returns-then-not-lits_pass c =
     let a = c.args in
-    (own_wrong a.s a.rows.now a.counts.now a.lits.now (lits_wrong a.s a.rows.now a.counts.now a.lits.now (failed c.lits_pass.ensures (ap not c.if-not-lits_pass.true))), omega arith)
+    own_wrong a.s a.rows.now a.counts.now a.lits.now (lits_wrong a.s a.rows.now a.counts.now a.lits.now (failed c.lits_pass.ensures (ap not c.if-not-lits_pass.true)))
 
 pub row_room-room-requires : goal.row_room-room-requires
 row_room-room-requires c =
@@ -40,7 +40,7 @@ row_full-requires c =
 pub returns-then-row_full : goal.returns-then-row_full
 returns-then-row_full c =
     let a = c.args in
-    (first_full a.s a.rows.now a.counts.now a.lits.now c.requires c.if-lits-ne2.false (passed c.lits_pass.ensures (ap not c.if-not-lits_pass.false)) (full_read a.counts.now (room_of a.s.vars a.rows.now) (neg (at a.lits.now 0)) c.row_full.ensures c.row_room-room.ensures c.negated-not_a.ensures c.if-row_full.true), omega arith)
+    first_full a.s a.rows.now a.counts.now a.lits.now c.requires c.if-lits-ne2.false (passed c.lits_pass.ensures (ap not c.if-not-lits_pass.false)) (full_read a.counts.now (room_of a.s.vars a.rows.now) (neg (at a.lits.now 0)) c.row_full.ensures c.row_room-room.ensures c.negated-not_a.ensures c.if-row_full.true)
 
 pub row_full-requires-2 : goal.row_full-requires-2
 row_full-requires-2 c =
@@ -50,9 +50,9 @@ row_full-requires-2 c =
 pub returns-then-row_full-2 : goal.returns-then-row_full-2
 returns-then-row_full-2 c =
     let a = c.args in
-    (second_full a.s a.rows.now a.counts.now a.lits.now c.requires c.if-lits-ne2.false (passed c.lits_pass.ensures (ap not c.if-not-lits_pass.false)) (full_read a.counts.now (room_of a.s.vars a.rows.now) (neg (at a.lits.now 1)) c.row_full-2.ensures c.row_room-room.ensures c.negated-not_b.ensures c.if-row_full-2.true), omega arith)
+    second_full a.s a.rows.now a.counts.now a.lits.now c.requires c.if-lits-ne2.false (passed c.lits_pass.ensures (ap not c.if-not-lits_pass.false)) (full_read a.counts.now (room_of a.s.vars a.rows.now) (neg (at a.lits.now 1)) c.row_full-2.ensures c.row_room-room.ensures c.negated-not_b.ensures c.if-row_full-2.true)
 
 pub returns : goal.returns
 returns c =
     let a = c.args in
-    (none_full a.s a.rows.now a.counts.now a.lits.now c.requires c.if-lits-ne2.false (passed c.lits_pass.ensures (ap not c.if-not-lits_pass.false)) (free_read a.counts.now (room_of a.s.vars a.rows.now) (neg (at a.lits.now 0)) c.row_full.ensures c.row_room-room.ensures c.negated-not_a.ensures c.if-row_full.false) (free_read a.counts.now (room_of a.s.vars a.rows.now) (neg (at a.lits.now 1)) c.row_full-2.ensures c.row_room-room.ensures c.negated-not_b.ensures c.if-row_full-2.false), omega arith)
+    none_full a.s a.rows.now a.counts.now a.lits.now c.requires c.if-lits-ne2.false (passed c.lits_pass.ensures (ap not c.if-not-lits_pass.false)) (free_read a.counts.now (room_of a.s.vars a.rows.now) (neg (at a.lits.now 0)) c.row_full.ensures c.row_room-room.ensures c.negated-not_a.ensures c.if-row_full.false) (free_read a.counts.now (room_of a.s.vars a.rows.now) (neg (at a.lits.now 1)) c.row_full-2.ensures c.row_room-room.ensures c.negated-not_b.ensures c.if-row_full-2.false)

@@ -1,78 +1,41 @@
-use mathlib.Core.Path.{◌∙◌, ap}
-use Prim.Native.Nat.{◌-◌}
-use native.Mathlib.Omega.{arith}
-use lib.ListN.{take}
+use Rattle.std.proofs.Common.{sym, ◌∙◌, arith}
 use lib.Seq.{length-take-le}
 use Rattle.close_up.proofs.Laying.{laid_placed}
 use Rattle.close_up.proofs.Closing.{close_start, turn, place_le, close_deleted, close_live, close_end}
-use mathlib.Core.Bool.{not}
 use Rattle.close_up.proofs.close_up.Goals as goal
+use Rattle.close_up.proofs.close_up.Goals.{then-not-deleted_at, else-not-deleted_at}
 
 pub loop-i-init : goal.loop-i-init
-loop-i-init c = close_start c.args.used c.args.n c.args.words.now c.args.clauses.now (laid_placed c.args.words.now c.args.used (take c.args.n c.args.clauses.now) c.args.n (length-take-le c.args.n c.args.clauses.now c.requires.used_in_bounds.2) c.requires.n_value)
-
-pub word-offset-requires : goal.word-offset-requires
-word-offset-requires c = omega (arith, c.loop-i.invariant.c_len, c.requires.used_in_bounds.2, c.loop-i-test.true)
+loop-i-init c = close_start _ _ _ _ (laid_placed _ _ _ c.args.n (length-take-le c.args.n c.args.clauses.now c.requires.used_in_bounds.2) c.requires.n_value)
 
 pub deleted_at-requires : goal.deleted_at-requires
-deleted_at-requires c =
-    let turn_at = turn c.args.used c.args.n c.args.words.now c.args.clauses.now c.loop-i.words c.loop-i.clauses c.loop-i.i c.loop-i.to c.loop-i.k c.requires.used_in_bounds.0 c.requires.used_in_bounds.2 c.loop-i.invariant c.loop-i-test.true c.word-offset.result c.word-offset.ensures.0 in
-    let t = turn_at in
-    let lo = t.low in let e = t.end in let q = t.same_len in
-    let wl = c.loop-i.invariant.w_len in let cl = c.loop-i.invariant.c_len in let kl = c.loop-i.invariant.k_le in
-    omega (arith, c.requires.used_in_bounds.0)
+deleted_at-requires c = let t = turn c.requires.used_in_bounds.0 c.requires.used_in_bounds.2 c.loop-i.invariant c.loop-i-test.true in omega arith
 
-pub word-size-requires : goal.word-size-requires
-word-size-requires c =
-    let turn_at = turn c.args.used c.args.n c.args.words.now c.args.clauses.now c.loop-i.words c.loop-i.clauses c.loop-i.i c.loop-i.to c.loop-i.k c.requires.used_in_bounds.0 c.requires.used_in_bounds.2 c.loop-i.invariant c.loop-i-test.true c.word-offset.result c.word-offset.ensures.0 in
-    let t = turn_at in
-    let lo = t.low in let e = t.end in let q = t.same_len in
-    let wl = c.loop-i.invariant.w_len in let cl = c.loop-i.invariant.c_len in let kl = c.loop-i.invariant.k_le in
-    omega (arith, c.requires.used_in_bounds.0)
+pub bounds-words-offset : goal.bounds-words-offset
+bounds-words-offset c = let t = turn c.requires.used_in_bounds.0 c.requires.used_in_bounds.2 c.loop-i.invariant c.loop-i-test.true in omega arith
 
 pub move_down-requires : goal.move_down-requires
-move_down-requires c =
-    let turn_at = turn c.args.used c.args.n c.args.words.now c.args.clauses.now c.loop-i.words c.loop-i.clauses c.loop-i.i c.loop-i.to c.loop-i.k c.requires.used_in_bounds.0 c.requires.used_in_bounds.2 c.loop-i.invariant c.loop-i-test.true c.word-offset.result c.word-offset.ensures.0 in
-    let t = turn_at in
-    let lo = t.low in let e = t.end in let q = t.same_len in
-    let wl = c.loop-i.invariant.w_len in let cl = c.loop-i.invariant.c_len in let kl = c.loop-i.invariant.k_le in
-    (lo, omega (arith, c.requires.used_in_bounds.0, c.word-size.ensures.0))
+move_down-requires c = let t = turn c.requires.used_in_bounds.0 c.requires.used_in_bounds.2 c.loop-i.invariant c.loop-i-test.true in (t.low, omega arith)
 
 pub put-requires : goal.put-requires
-put-requires c =
-    let turn_at = turn c.args.used c.args.n c.args.words.now c.args.clauses.now c.loop-i.words c.loop-i.clauses c.loop-i.i c.loop-i.to c.loop-i.k c.requires.used_in_bounds.0 c.requires.used_in_bounds.2 c.loop-i.invariant c.loop-i-test.true c.word-offset.result c.word-offset.ensures.0 in
-    let t = turn_at in
-    let lo = t.low in let e = t.end in let q = t.same_len in
-    let wl = c.loop-i.invariant.w_len in let cl = c.loop-i.invariant.c_len in let kl = c.loop-i.invariant.k_le in
-    (omega (arith, c.requires.used_in_bounds.2, c.loop-i-test.true), omega (arith, c.requires.used_in_bounds.0, c.requires.used_in_bounds.1))
+put-requires c = let t = turn c.requires.used_in_bounds.0 c.requires.used_in_bounds.2 c.loop-i.invariant c.loop-i-test.true in (omega arith, omega arith)
 
 pub overflow_add-to : goal.overflow_add-to
-overflow_add-to c =
-    let turn_at = turn c.args.used c.args.n c.args.words.now c.args.clauses.now c.loop-i.words c.loop-i.clauses c.loop-i.i c.loop-i.to c.loop-i.k c.requires.used_in_bounds.0 c.requires.used_in_bounds.2 c.loop-i.invariant c.loop-i-test.true c.word-offset.result c.word-offset.ensures.0 in
-    let t = turn_at in
-    let lo = t.low in let e = t.end in let q = t.same_len in
-    let wl = c.loop-i.invariant.w_len in let cl = c.loop-i.invariant.c_len in let kl = c.loop-i.invariant.k_le in
-    omega (arith, c.requires.used_in_bounds.0, c.requires.used_in_bounds.1, c.word-size.ensures.1)
-
-pub loop-i-preserved-then-not-deleted_at : goal.loop-i-preserved-then-not-deleted_at
-loop-i-preserved-then-not-deleted_at c =
-    close_live c.args.used c.args.n c.args.words.now c.args.clauses.now c.loop-i.words c.loop-i.clauses c.loop-i.i c.loop-i.to c.loop-i.k c.requires.used_in_bounds.0 c.requires.used_in_bounds.2 c.loop-i.invariant c.loop-i-test.true c.word-offset.result c.word-offset.ensures.0
-    _ c.deleted_at.ensures (ap not c.if-not-deleted_at.true) _ c.word-size.ensures.0 _ _ c.move_down.ensures c.put.ensures
+overflow_add-to c = let t = turn c.requires.used_in_bounds.0 c.requires.used_in_bounds.2 c.loop-i.invariant c.loop-i-test.true in omega arith
 
 pub loop-i-preserved : goal.loop-i-preserved
 loop-i-preserved c =
-    close_deleted c.args.used c.args.n c.args.words.now c.args.clauses.now c.loop-i.words c.loop-i.clauses c.loop-i.i c.loop-i.to c.loop-i.k c.requires.used_in_bounds.0 c.requires.used_in_bounds.2 c.loop-i.invariant c.loop-i-test.true c.word-offset.result c.word-offset.ensures.0
-    _ c.deleted_at.ensures (ap not c.if-not-deleted_at.false)
+    let fit-w = c.requires.used_in_bounds.0 in
+    let fit-c = c.requires.used_in_bounds.2 in
+    elim c.if-not-deleted_at.branch [
+      | then-not-deleted_at w ↦ rw (w.words-is, w.clauses-is, w.to-is, w.k-is, w.move_down.ensures, w.put.ensures) (close_live fit-w fit-c c.loop-i.invariant c.loop-i-test.true (sym c.deleted_at.ensures ∙ w.if-not-deleted_at.true))
+      | else-not-deleted_at w ↦ rw (w.words-is, w.clauses-is, w.to-is, w.k-is) (close_deleted fit-w fit-c c.loop-i.invariant c.loop-i-test.true (sym c.deleted_at.ensures ∙ w.if-not-deleted_at.false))
+    ]
 
 pub clear-requires : goal.clear-requires
-clear-requires c =
-    let q = place_le c.args.used c.args.n c.args.words.now c.args.clauses.now c.loop-i.words c.loop-i.clauses c.loop-i.i c.loop-i.to c.loop-i.k c.requires.used_in_bounds.0 c.requires.used_in_bounds.2 c.loop-i.invariant in
-    (omega (arith, c.loop-i.invariant.to_le), omega (arith, c.requires.used_in_bounds.0, c.loop-i.invariant.w_len))
-
-pub clear-requires-2 : goal.clear-requires-2
-clear-requires-2 c = (omega (arith, c.loop-i.invariant.k_le, c.loop-i.invariant.i_le), omega (arith, c.requires.used_in_bounds.2, c.loop-i.invariant.c_len))
+clear-requires c = let p = place_le c.requires.used_in_bounds.0 c.requires.used_in_bounds.2 c.loop-i.invariant in (omega arith, omega arith)
 
 pub returns : goal.returns
 returns c =
-    let done = close_end c.args.used c.args.n c.args.words.now c.args.clauses.now c.loop-i.words c.loop-i.clauses c.loop-i.i c.loop-i.to c.loop-i.k c.requires.used_in_bounds.0 c.requires.used_in_bounds.2 c.loop-i.invariant c.loop-i-test.false in
+    let done = close_end c.requires.used_in_bounds.0 c.requires.used_in_bounds.2 c.loop-i.invariant (omega arith) c.loop-i-test.false in
     (c.clear.ensures ∙ done.words, c.clear-2.ensures ∙ done.list, done.count_words, done.count_list)

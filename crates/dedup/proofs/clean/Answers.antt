@@ -1,10 +1,9 @@
-use mathlib.Core.Path.{◌∙◌}
-use lib.ListN.{take}
+use Rattle.std.proofs.Common.{◌∙◌, ◌≤◌, length, arith}
+use Rattle.std.proofs.lemmas.List.{take-append-le}
 use Rattle.dedup.proofs.Marking.{same_unmarked}
 use Rattle.dedup.proofs.clean.Goals as goal
 
-pub returns : goal.returns
-returns c =
-    let u = c.unmark in
-    let m = c.mark-k in
-    record { kept = c.mark-k.ensures.kept; words_unchanged = same_unmarked (take m.result m.new.list) u.new.words c.args.words.now m.new.words (u.auto.words ∙ m.auto.words) u.ensures c.mark-k.ensures.marked }
+pub returns-clause-words_unchanged : goal.returns-clause-words_unchanged
+returns-clause-words_unchanged c =
+    let few : c.mark-k.result ≤ length c.mark-k.new.list = omega arith in
+    same_unmarked _ _ _ _ (c.unmark.auto.words ∙ c.mark-k.auto.words) c.unmark.ensures (rw take-append-le c.mark-k.ensures.marked)

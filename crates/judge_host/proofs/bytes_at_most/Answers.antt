@@ -1,17 +1,9 @@
-use mathlib.Core.Path.{sym}
-use mathlib.Core.Bool.{true}
-use Prim.Native.Nat.{◌-◌}
-use Rattle.laws.proofs.Folds.{all_none, all_fails, all_more}
-use Rattle.judge_host.proofs.Ways.{above_most, within_most}
-use native.Mathlib.Omega.{arith}
-use borrow.Author.Rules.{rules}
+use Rattle.std.proofs.Common.{rules}
+use lib.ListN.{length}
+use Rattle.calls.specs.HostPasses.{at_most_at}
+use Rattle.laws.proofs.Chains.{all_iff}
 use Rattle.judge_host.proofs.bytes_at_most.Goals as goal
 
-pub loop-i-init : goal.loop-i-init
-loop-i-init c = (search rules, all_none _)
-
-pub returns-then-most-byte : goal.returns-then-most-byte
-returns-then-most-byte c = sym (all_fails _ _ _ c.loop-i-test.true (above_most _ _ _ _ c.byte.ensures.0 c.if-most-byte.true))
-
-pub loop-i-preserved : goal.loop-i-preserved
-loop-i-preserved c = (omega arith, all_more _ _ c.loop-i.invariant.1 (within_most _ _ _ _ c.byte.ensures.0 c.if-most-byte.false))
+pub returns : goal.returns
+unfolding at_most_at
+returns c = all_iff (at_most_at c.args.most c.args.bytes.now) (length c.args.bytes.now) (search rules)

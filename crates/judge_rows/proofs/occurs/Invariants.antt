@@ -1,12 +1,5 @@
-use mathlib.Core.Path.{◌≡◌}
-use Prim.Native.Nat.{◌≤◌, ◌-◌}
-use lib.ListN.{length}
-use Rattle.laws.specs.Fold.{count_below}
-use Rattle.calls.specs.StorePasses.{stands_at}
+use Rattle.std.proofs.Common.{◌≡◌, eqb, take, count_by}
 use Rattle.judge_rows.proofs.occurs.Given as goal
 
-abbrev pub invariant-loop-k : goal.invariant-loop-k
-invariant-loop-k l = (l.k ≤ length l.row) × (l.times ≤ l.k) × (l.times ≡ count_below (stands_at l.row l.x) l.k)
-
-abbrev pub decreases-loop-k : goal.decreases-loop-k
-decreases-loop-k l = length l.row - l.k
+abbrev pub invariant-loop-b : goal.invariant-loop-b
+invariant-loop-b l = l.times ≡ count_by (λ y. eqb y l.x) (take l.b-index l.row)

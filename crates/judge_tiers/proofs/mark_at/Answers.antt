@@ -1,11 +1,9 @@
+use Rattle.std.proofs.Common.{rules}
 use Rattle.judge_tiers.proofs.Steps.{mark_miss, mark_dead, mark_live}
 use Rattle.judge_tiers.proofs.mark_at.Goals as goal
 
-pub returns-then-n-k : goal.returns-then-n-k
-returns-then-n-k c = mark_miss _ _ _ _ _ c.find-k.ensures c.if-n-k.true
+pub returns-then-not-deleted_at : goal.returns-then-not-deleted_at
+returns-then-not-deleted_at c = search (rules, mark_live)
 
-pub returns-then-deleted_of : goal.returns-then-deleted_of
-returns-then-deleted_of c = mark_dead _ _ _ _ _ c.find-k.ensures c.if-n-k.false c.deleted_of.ensures c.if-deleted_of.true
-
-pub returns : goal.returns
-returns c = mark_live _ _ _ _ _ c.find-k.ensures c.if-n-k.false c.deleted_of.ensures c.if-deleted_of.false c.with_mark-marked.ensures
+pub returns-else-find-n : goal.returns-else-find-n
+returns-else-find-n c = search (rules, mark_miss, mark_dead)

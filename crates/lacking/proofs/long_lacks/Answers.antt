@@ -1,36 +1,32 @@
 use mathlib.Core.Path.{sym, ◌∙◌}
-use mathlib.Core.Bool.{true, false}
-use Prim.Native.Nat.{◌-◌}
+use Prim.Native.Nat.{◌<◌}
+use lib.ListN.{length}
 use Rattle.laws.proofs.Folds.{any_none}
-use Rattle.lacking.specs.Lacks.{long_lacks}
+use Rattle.laws.proofs.Parts.{in_front, read_each}
+use Rattle.kinds.specs.Clauses.{var_of}
 use Rattle.lacking.proofs.Looking.{none_next, some_out}
-use Rattle.lacking.proofs.Found.{long_dead, long_is, lits_in}
-use native.Mathlib.Omega.{arith}
+use Rattle.lacking.proofs.Found.{long_dead, long_is}
 use Rattle.lacking.proofs.long_lacks.Goals as goal
 
-pub loop-i-init : goal.loop-i-init
-loop-i-init c = let a = c.args in (omega arith, any_none (long_lacks a.values.now a.words.now a.clauses.now))
+pub loop-clause-init : goal.loop-clause-init
+loop-clause-init c = any_none _
 
-pub loop-i-preserved-then-deleted_of : goal.loop-i-preserved-then-deleted_of
-loop-i-preserved-then-deleted_of c =
-    let a = c.args in
-    let h = c.loop-i-test.true in
-    (omega arith, none_next (long_lacks a.values.now a.words.now a.clauses.now) c.loop-i.i c.loop-i.invariant.1 (long_dead a.values.now a.words.now a.clauses.now c.loop-i.i (sym c.deleted_of.ensures ∙ c.if-deleted_of.true)))
+pub loop-clause-preserved-then-deleted_of : goal.loop-clause-preserved-then-deleted_of
+loop-clause-preserved-then-deleted_of c =
+    let e = in_front _ _ _ c.loop-clause-test.true in
+    none_next _ _ c.loop-clause.invariant (long_dead _ _ _ _ e.1 (sym c.deleted_of.ensures ∙ c.if-deleted_of.true))
 
 pub lacks-requires : goal.lacks-requires
 lacks-requires c =
-    let a = c.args in
-    let h = c.loop-i-test.true in
-    lits_in _ a.words.now _ (c.requires.by_index c.loop-i.i h (sym c.deleted_of.ensures ∙ c.if-deleted_of.false)) c.lits-lits.ensures
+    let e = in_front _ _ _ c.loop-clause-test.true in
+    read_each (λ x. var_of x < length c.args.values.now) _ _ _ (rw (← e.1) at (c.requires.by_index c.loop-clause.clause-index e.0) (sym c.deleted_of.ensures ∙ c.if-deleted_of.false)) c.lits.ensures
 
 pub returns-then-lacks : goal.returns-then-lacks
 returns-then-lacks c =
-    let a = c.args in
-    let h = c.loop-i-test.true in
-    some_out (long_lacks a.values.now a.words.now a.clauses.now) c.loop-i.i a.n h (long_is a.values.now a.words.now a.clauses.now c.loop-i.i (sym c.deleted_of.ensures ∙ c.if-deleted_of.false) c.lits-lits.ensures c.lacks.ensures c.if-lacks.true)
+    let e = in_front _ _ _ c.loop-clause-test.true in
+    some_out _ _ _ e.0 (long_is _ _ _ _ e.1 (sym c.deleted_of.ensures ∙ c.if-deleted_of.false) c.lits.ensures c.lacks.ensures ∙ c.if-lacks.true)
 
-pub loop-i-preserved : goal.loop-i-preserved
-loop-i-preserved c =
-    let a = c.args in
-    let h = c.loop-i-test.true in
-    (omega arith, none_next (long_lacks a.values.now a.words.now a.clauses.now) c.loop-i.i c.loop-i.invariant.1 (long_is a.values.now a.words.now a.clauses.now c.loop-i.i (sym c.deleted_of.ensures ∙ c.if-deleted_of.false) c.lits-lits.ensures c.lacks.ensures c.if-lacks.false))
+pub loop-clause-preserved : goal.loop-clause-preserved
+loop-clause-preserved c =
+    let e = in_front _ _ _ c.loop-clause-test.true in
+    none_next _ _ c.loop-clause.invariant (long_is _ _ _ _ e.1 (sym c.deleted_of.ensures ∙ c.if-deleted_of.false) c.lits.ensures c.lacks.ensures ∙ c.if-lacks.false)

@@ -1,12 +1,8 @@
 use mathlib.Core.Path.{◌≡◌}
 use mathlib.Core.Bool.{false}
-use Prim.Native.Nat.{◌-◌, ◌≤◌}
 use Rattle.laws.specs.Fold.{any_below}
 use Rattle.lacking.specs.Lacks.{pair_lacks}
 use Rattle.lacking.proofs.row_lacks.Given as goal
 
-abbrev pub invariant-loop-i : goal.invariant-loop-i
-invariant-loop-i l = (l.i ≤ l.n) × (any_below (pair_lacks l.values l.code l.row) l.i ≡ false)
-
-abbrev pub decreases-loop-i : goal.decreases-loop-i
-decreases-loop-i l = l.n - l.i
+abbrev pub invariant-loop-other : goal.invariant-loop-other
+invariant-loop-other l = any_below (pair_lacks l.values l.code l.row) l.other-index ≡ false

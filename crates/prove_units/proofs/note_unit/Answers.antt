@@ -1,4 +1,3 @@
-use Prim.Native.Nat.{◌-◌}
 use lib.ListN.{length-set}
 use Rattle.prove_units.proofs.Reasons.{in_words, long_size, long_said}
 use native.Mathlib.Omega.{arith}
@@ -6,14 +5,9 @@ use Rattle.prove_units.proofs.note_unit.Goals as goal
 
 pub copy-requires : goal.copy-requires
 copy-requires c =
-    let a = c.args in
-    let p = c.requires in
-    let e = c.in-Long.is in
-    let w = in_words a.words.now a.lit a.reason c.in-Long.clause e p.1 in
-    let z = long_size a.words.now a.lit a.reason c.in-Long.clause e p.1 in
-    (simp length-set (omega (arith, p.0, z, c.word-n.ensures.0, w.0, w.1)), omega (arith, p.0, z, c.word-n.ensures.0, w.0, w.1))
+    let w = in_words _ c.args.lit _ _ c.in-Long.is c.requires.1 in
+    let z = long_size _ c.args.lit _ _ c.in-Long.is c.requires.1 in
+    (simp length-set (omega (arith, c.requires.0, z, c.word-n.ensures.0, w)), omega (arith, c.word-n.ensures.0, w))
 
-pub returns-in_default : goal.returns-in_default
-returns-in_default c =
-    let a = c.args in
-    long_said a.words.now a.lit a.reason c.in-Long.clause c.in-Long.is c.requires.1 a.rec.now _ a.used _ c.word-n.ensures.0 c.copy.ensures
+pub returns-in-Long : goal.returns-in-Long
+returns-in-Long c = long_said _ _ _ _ c.in-Long.is c.requires.1 _ _ _ _ c.word-n.ensures.0 c.copy.ensures

@@ -1,19 +1,23 @@
-use mathlib.Core.Path.{sym}
-use Prim.Native.Nat.{◌-◌}
+use Rattle.std.proofs.Common.{ℕ, ◌∙◌, refl, sym, arith}
+use lib.ListN.{length-take}
+use lib.Seq.{get_or-take}
 use Rattle.laws.proofs.Folds.{count_none, count_le}
+use Rattle.laws.proofs.Totals.{count_yes, count_no}
 use Rattle.reduce_refusals.specs.Counted.{inactive_at}
-use Rattle.reduce_refusals.proofs.MidsRoom.{one_more, at_most_one, count_end}
-use native.Mathlib.Omega.{arith}
 use Rattle.reduce_refusals.proofs.inactive_mids.Goals as goal
+use Rattle.reduce_refusals.proofs.inactive_mids.Goals.{then-goes_to_local, else-goes_to_local}
 
-pub loop-i-init : goal.loop-i-init
-loop-i-init c = (omega arith, sym (count_none (inactive_at c.args.words.now c.args.clauses.now)))
+pub loop-cref-init : goal.loop-cref-init
+loop-cref-init c = sym (count_none _)
 
 pub overflow_add-count : goal.overflow_add-count
-overflow_add-count c = let a = c.args in let b = count_le (inactive_at a.words.now a.clauses.now) c.loop-i.i in let d = at_most_one _ _ c.goes_to_local-count.ensures in omega (arith, b, d, c.loop-i.invariant.1)
+overflow_add-count c = omega (arith, count_le (inactive_at c.args.words.now c.args.clauses.now) c.loop-cref.cref-index)
 
-pub loop-i-preserved : goal.loop-i-preserved
-loop-i-preserved c = let a = c.args in (omega arith, one_more a.words.now a.clauses.now c.loop-i.i c.loop-i.count _ _ c.loop-i.invariant.1 c.word-place.ensures.0 c.goes_to_local-count.ensures)
-
-pub returns : goal.returns
-returns c = let a = c.args in count_end (inactive_at a.words.now a.clauses.now) c.loop-i.i a.n c.loop-i.invariant.1 c.loop-i.invariant.0 c.loop-i-test.false
+pub loop-cref-preserved : goal.loop-cref-preserved
+unfolding inactive_at
+loop-cref-preserved c =
+    let e = get_or-take c.args.n c.args.clauses.now c.loop-cref.cref-index 0 (omega (arith, length-take {A = ℕ})) in
+    elim c.if-goes_to_local.branch [
+      | then-goes_to_local w ↦ w.count-is ∙ count_yes _ _ c.loop-cref.invariant refl (rw e at (sym c.goes_to_local.ensures ∙ w.if-goes_to_local.true))
+      | else-goes_to_local w ↦ w.count-is ∙ count_no _ _ c.loop-cref.invariant refl (rw e at (sym c.goes_to_local.ensures ∙ w.if-goes_to_local.false))
+    ]

@@ -1,9 +1,9 @@
-use mathlib.Core.Path.{◌≡◌, sym, ◌∙◌, subst}
+use mathlib.Core.Path.{◌≡◌, sym, ◌∙◌}
 use Prim.Native.Nat.{ℕ, ◌+◌, ◌^◌, ◌≤◌, ◌<◌}
 use native.Mathlib.Omega.{arith}
-use lib.ListN.{length, set}
+use lib.ListN.{length}
 use borrow.Author.Rules.{rules}
-use Rattle.laws.specs.Lists.{at, more, less}
+use Rattle.laws.specs.Lists.{at}
 use Rattle.laws.proofs.Pushes.{less_other}
 use Rattle.kinds.specs.Lent.{lent_five, no_host}
 use Rattle.kinds.specs.Held.{Held}
@@ -11,13 +11,11 @@ use Rattle.kinds.specs.Layout.{view}
 use Rattle.reduce_steps.proofs.Sweeping.{Sweep, Begun, inside, one_there, sweep_keep, local_room, sweep_move}
 use Rattle.reduce_steps.proofs.Swept.{MidsReady, mids_ready, mids_begin, counts_few, mids_laid, same_words}
 use Rattle.reduce_steps.proofs.mids.Goals as goal
-use Rattle.reduce_steps.proofs.mids.Goals.{At-loop-i}
+use Rattle.reduce_steps.proofs.mids.Goals.{At-loop-i, then-active_of, else-active_of}
 
 ready : (c : At-loop-i) → MidsReady c.args.s c.args.words.now c.args.clauses.now c.args.irred.now c.args.core.now c.args.mid.now c.args.local.now
 ready c =
-    let tier_lengths : length c.args.s.tiers ≡ 4 = search rules in
-    let count_lengths : length c.args.s.counts ≡ 4 = search rules in
-    mids_ready c.args.s c.args.words.now c.args.clauses.now c.args.irred.now c.args.core.now c.args.mid.now c.args.local.now tier_lengths count_lengths c.requires.no_host_value c.requires.no_host_value_2
+    mids_ready _ _ _ _ _ _ _ (search rules) (search rules) c.requires.no_host_value c.requires.no_host_value_2
 
 -- what is held at the start
 abbrev held : At-loop-i → Held
@@ -25,15 +23,11 @@ held c = view (lent_five c.args.s c.args.words.now c.args.clauses.now c.args.irr
 
 begun : (c : At-loop-i) → Begun (held c) c.clean-n.result c.clean-n.new.list c.args.local.now c.clean-n.new.words c.args.s.counts (at c.args.s.tiers 3)
 begun c =
-    let tier_lengths : length c.args.s.tiers ≡ 4 = search rules in
-    let count_lengths : length c.args.s.counts ≡ 4 = search rules in
     let m = c.clean-n in
     let r = ready c in
     let long : length m.new.list ≡ length c.args.mid.now = m.auto.list in
-    let few = m.ensures.kept.few in
-    let used = r.mid_used in
     record {
-      begins = mids_begin c.args.s c.args.words.now c.args.clauses.now c.args.irred.now c.args.core.now c.args.mid.now c.args.local.now tier_lengths count_lengths c.requires.no_host_value m.new.list m.new.words m.result m.ensures.kept m.ensures.words_unchanged r.local_used;
+      begins = mids_begin _ _ _ _ _ _ _ (search rules) (search rules) c.requires.no_host_value m.ensures.kept m.ensures.words_unchanged r.local_used;
       fit = omega arith;
       room = r.room;
     }
@@ -54,42 +48,26 @@ record Turn (n i kept locals entry words mid local : ℕ) : Type 0 where
 turn : (c : At-loop-i) → c.loop-i.i < c.clean-n.result → Turn c.clean-n.result c.loop-i.i c.loop-i.kept c.loop-i.locals (at c.loop-i.mid c.loop-i.i) (length c.loop-i.words) (length c.loop-i.mid) (length c.loop-i.local)
 turn c lt =
     let m = c.clean-n in
-    let l = c.loop-i in
     let r = ready c in
     let w = swept c in
     let long : length m.new.list ≡ length c.args.mid.now = m.auto.list in
     let few = m.ensures.kept.few in
-    let used = r.mid_used in
-    let a = w.kept_le in
-    let b = w.mid_len in
-    let e = w.local_len in
-    let f = w.locals_le in
-    let g = w.words_len in
     let wide = same_words c.args.s c.args.words.now c.args.clauses.now c.args.irred.now c.args.core.now c.args.mid.now c.args.local.now in
-    let x = r.mid_most in
-    let y = r.local_most in
-    let z = r.words_most in
     record {
       i-in = omega arith;
       kept_in = omega arith;
       locals_le = omega arith;
-      inside = inside (held c) m.result m.new.list c.args.local.now l.words l.mid l.local l.counts l.i l.kept l.locals (begun c).fit w lt;
+      inside = inside (begun c).fit w lt;
       few = omega arith;
       local-few = omega arith;
       words_few = omega arith;
     }
 
 pub clean-n-requires-clause-n_in_bounds : goal.clean-n-requires-clause-n_in_bounds
-clean-n-requires-clause-n_in_bounds c =
-    let tier_lengths : length c.args.s.tiers ≡ 4 = search rules in
-    let count_lengths : length c.args.s.counts ≡ 4 = search rules in
-    (mids_ready c.args.s c.args.words.now c.args.clauses.now c.args.irred.now c.args.core.now c.args.mid.now c.args.local.now tier_lengths count_lengths c.requires.no_host_value c.requires.no_host_value_2).mid_used
+clean-n-requires-clause-n_in_bounds c = (mids_ready _ _ _ _ _ _ _ (search rules) (search rules) c.requires.no_host_value c.requires.no_host_value_2).mid_used
 
 pub clean-n-requires-clause-entries : goal.clean-n-requires-clause-entries
-clean-n-requires-clause-entries c =
-    let tier_lengths : length c.args.s.tiers ≡ 4 = search rules in
-    let count_lengths : length c.args.s.counts ≡ 4 = search rules in
-    (mids_ready c.args.s c.args.words.now c.args.clauses.now c.args.irred.now c.args.core.now c.args.mid.now c.args.local.now tier_lengths count_lengths c.requires.no_host_value c.requires.no_host_value_2).entries
+clean-n-requires-clause-entries c = (mids_ready _ _ _ _ _ _ _ (search rules) (search rules) c.requires.no_host_value c.requires.no_host_value_2).entries
 
 pub offset_bounds-mid-i : goal.offset_bounds-mid-i
 offset_bounds-mid-i c = let t = turn (goal.at.offset_bounds-mid-i c).At-loop-i c.loop-i-test.true in omega (arith, t)
@@ -109,15 +87,6 @@ bounds-mid-kept c = let t = turn (goal.at.bounds-mid-kept c).At-loop-i c.loop-i-
 pub overflow_add-kept : goal.overflow_add-kept
 overflow_add-kept c = let t = turn (goal.at.overflow_add-kept c).At-loop-i c.loop-i-test.true in omega (arith, t)
 
-pub loop-i-preserved-then-active_of : goal.loop-i-preserved-then-active_of
-loop-i-preserved-then-active_of c = λ h b.
-    let m = c.clean-n in
-    let l = c.loop-i in
-    let active = sym c.active_of.ensures ∙ c.if-active_of.true in
-    subst (λ (x : ℕ). Sweep h m.result m.new.list c.args.local.now (set l.words (at l.mid l.i + 1) x) (set l.mid l.kept (at l.mid l.i)) l.local l.counts (l.i + 1) (l.kept + 1) l.locals)
-    (sym c.with_active.ensures)
-    (sweep_keep h m.result m.new.list c.args.local.now l.words l.mid l.local l.counts l.i l.kept l.locals b.fit (l.invariant h b) c.loop-i-test.true active)
-
 pub bounds-words-place-else-active_of : goal.bounds-words-place-else-active_of
 bounds-words-place-else-active_of c = let t = turn (goal.at.bounds-words-place-else-active_of c).At-loop-i c.loop-i-test.true in t.inside
 
@@ -127,10 +96,8 @@ offset_bounds-local-locals c = let t = turn (goal.at.offset_bounds-local-locals 
 pub bounds-local-locals : goal.bounds-local-locals
 bounds-local-locals c =
     let d = (goal.at.bounds-local-locals c).At-loop-i in
-    let m = c.clean-n in
-    let l = c.loop-i in
     let inactive = sym c.active_of.ensures ∙ c.if-active_of.false in
-    local_room (held d) m.result m.new.list c.args.local.now l.words l.mid l.local l.counts l.i l.kept l.locals (begun d).fit (swept d) c.loop-i-test.true inactive (begun d).room
+    local_room (begun d).fit (swept d) c.loop-i-test.true inactive (begun d).room
 
 pub overflow_add-locals : goal.overflow_add-locals
 overflow_add-locals c = let t = turn (goal.at.overflow_add-locals c).At-loop-i c.loop-i-test.true in omega (arith, t)
@@ -138,32 +105,28 @@ overflow_add-locals c = let t = turn (goal.at.overflow_add-locals c).At-loop-i c
 pub overflow_sub-counts : goal.overflow_sub-counts
 overflow_sub-counts c =
     let d = (goal.at.overflow_sub-counts c).At-loop-i in
-    let m = c.clean-n in
-    let l = c.loop-i in
-    one_there (held d) m.result m.new.list c.args.local.now l.words l.mid l.local l.counts l.i l.kept l.locals (begun d).fit (swept d) c.loop-i-test.true
+    one_there (begun d).fit (swept d) c.loop-i-test.true
 
 pub overflow_add-counts : goal.overflow_add-counts
 overflow_add-counts c =
     let d = (goal.at.overflow_add-counts c).At-loop-i in
-    let tier_lengths : length c.args.s.tiers ≡ 4 = search rules in
-    let count_lengths : length c.args.s.counts ≡ 4 = search rules in
-    let m = c.clean-n in
     let l = c.loop-i in
     let r = ready d in
-    let few = counts_few c.args.s c.args.words.now c.args.clauses.now c.args.irred.now c.args.core.now c.args.mid.now c.args.local.now tier_lengths count_lengths c.requires.no_host_value m.new.list l.words l.mid l.local l.counts m.result l.i l.kept l.locals (swept d) r.listed 3 (omega arith) in
+    let few = counts_few _ _ _ _ _ _ _ (search rules) (search rules) c.requires.no_host_value (swept d) r.listed 3 (omega arith) in
     let a = less_other l.counts 2 3 (λ q. omega arith) in
-    let b = r.listed in
-    let e = r.clauses_most in
     omega arith
 
 pub loop-i-preserved : goal.loop-i-preserved
 loop-i-preserved c = λ h b.
-    let m = c.clean-n in
     let l = c.loop-i in
-    let inactive = sym c.active_of.ensures ∙ c.if-active_of.false in
-    subst (λ (x : ℕ). Sweep h m.result m.new.list c.args.local.now (set l.words (at l.mid l.i + 1) x) l.mid (set l.local l.locals (at l.mid l.i)) (more 3 (less 2 l.counts)) (l.i + 1) l.kept (l.locals + 1))
-    (sym c.with_tier.ensures)
-    (sweep_move h m.result m.new.list c.args.local.now l.words l.mid l.local l.counts l.i l.kept l.locals b.fit (l.invariant h b) c.loop-i-test.true inactive b.room)
+    elim c.if-active_of.branch [
+      | then-active_of w ↦
+          rw (w.words-is, w.mid-is, w.local-is, w.counts-is, w.kept-is, w.locals-is, w.with_active.ensures)
+          (sweep_keep b.fit (l.invariant h b) c.loop-i-test.true (sym c.active_of.ensures ∙ w.if-active_of.true))
+      | else-active_of w ↦
+          rw (w.words-is, w.mid-is, w.local-is, w.counts-is, w.kept-is, w.locals-is, w.with_tier.ensures)
+          (sweep_move b.fit (l.invariant h b) c.loop-i-test.true (sym c.active_of.ensures ∙ w.if-active_of.false) b.room)
+    ]
 
 pub clear-requires : goal.clear-requires
 clear-requires c =
@@ -172,19 +135,11 @@ clear-requires c =
     let r = ready d in
     let w = swept d in
     let long : length m.new.list ≡ length c.args.mid.now = m.auto.list in
-    let a = w.kept_le in
-    let b = w.i_le in
-    let e = m.ensures.kept.few in
-    let f = w.mid_len in
-    let g = r.mid_used in
     (omega arith, omega arith)
 
 pub returns : goal.returns
 returns c =
     let d = (goal.at.returns c).At-loop-i in
-    let tier_lengths : length c.args.s.tiers ≡ 4 = search rules in
-    let count_lengths : length c.args.s.counts ≡ 4 = search rules in
     let m = c.clean-n in
-    let l = c.loop-i in
     let long : length m.new.list ≡ length c.args.mid.now = m.auto.list in
-    mids_laid c.args.s c.args.words.now c.args.clauses.now c.args.irred.now c.args.core.now c.args.mid.now c.args.local.now tier_lengths count_lengths (ready d) m.result m.new.list l.words l.mid l.local l.counts l.i l.kept l.locals m.ensures.kept long (swept d) c.loop-i-test.false c.clear.new.words c.clear.ensures c.requires.no_host_value
+    mids_laid _ _ _ _ _ _ _ (search rules) (search rules) (ready d) m.ensures.kept long (swept d) c.loop-i-test.false c.clear.ensures c.requires.no_host_value

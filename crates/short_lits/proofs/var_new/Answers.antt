@@ -1,13 +1,13 @@
-use native.Mathlib.Omega.{arith}
-use Prim.Native.Nat.{◌-◌}
-use Rattle.short_lits.proofs.Pairs.{new_none, new_more, new_not}
+use Rattle.std.proofs.Common.{sym}
+use Rattle.laws.proofs.Folds.{all_none, all_more}
+use Rattle.short_lits.proofs.Pairs.{other_variable, same_variable}
 use Rattle.short_lits.proofs.var_new.Goals as goal
 
-pub loop-k-init : goal.loop-k-init
-loop-k-init c = (omega arith, new_none _ _)
+pub loop-lit-init : goal.loop-lit-init
+loop-lit-init c = all_none _
 
-pub returns-then-lits-k : goal.returns-then-lits-k
-returns-then-lits-k c = new_not _ _ c.loop-k.k c.loop-k-test.true c.if-lits-k.true
+pub returns-then-lit-own : goal.returns-then-lit-own
+returns-then-lit-own c = sym (same_variable _ _ _ c.loop-lit-test.true c.if-lit-own.true)
 
-pub loop-k-preserved : goal.loop-k-preserved
-loop-k-preserved c = (omega arith, new_more _ _ c.loop-k.k c.loop-k.invariant.1 c.if-lits-k.false)
+pub loop-lit-preserved : goal.loop-lit-preserved
+loop-lit-preserved c = all_more _ _ c.loop-lit.invariant (other_variable _ _ _ c.loop-lit-test.true c.if-lit-own.false)

@@ -1,9 +1,7 @@
-use Prim.Native.Nat.{◌-◌, ◌≤◌}
-use Rattle.short_lits.proofs.Pairs.{New}
+use Rattle.std.proofs.Common.{◌≡◌, true}
+use Rattle.laws.specs.Fold.{all_below}
+use Rattle.calls.specs.StorePasses.{apart}
 use Rattle.short_lits.proofs.var_new.Given as goal
 
-abbrev pub invariant-loop-k : goal.invariant-loop-k
-invariant-loop-k l = (l.k ≤ l.j) × New l.lits l.j l.k
-
-abbrev pub decreases-loop-k : goal.decreases-loop-k
-decreases-loop-k l = l.j - l.k
+abbrev pub invariant-loop-lit : goal.invariant-loop-lit
+invariant-loop-lit l = all_below (apart l.lits 0 l.j) l.lit-index ≡ true

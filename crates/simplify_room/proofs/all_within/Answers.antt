@@ -1,20 +1,29 @@
-use mathlib.Core.Path.{sym}
-use Prim.Native.Nat.{◌-◌}
+use mathlib.Core.Path.{◌≡◌, sym}
+use mathlib.Core.Bool.{Bool, true, false}
+use mathlib.Core.List.{List}
+use Prim.Native.Nat.{ℕ, ◌≤◌, ◌<◌}
+use lib.ListN.{length, take, length-take}
+use lib.Seq.{get_or-take}
+use borrow.Author.Tests.{tests, le-leb, lt-leb}
+use Rattle.std.proofs.Common.{rules}
+use Rattle.std.proofs.lemmas.Iterator.{cases_from_all, YieldsList-from_slice}
+use Rattle.std.specs.Bool.{MatchBool}
+use Rattle.std.specs.List.{AllWithin, HoldsAt}
+use Rattle.laws.specs.Fold.{all_below}
 use Rattle.laws.specs.Lists.{at}
-use mathlib.Core.Bool.{true, false}
-use borrow.Author.Tests.{le-leb, lt-leb}
-use Rattle.laws.proofs.Folds.{all_none, all_more, all_fails}
+use Rattle.laws.proofs.Folds.{all_of, all_fails}
+use Rattle.laws.proofs.Parts.{in_front}
 use Rattle.calls.specs.HostPasses.{at_most_at}
 use native.Mathlib.Omega.{arith}
 use Rattle.simplify_room.proofs.all_within.Goals as goal
 
-pub loop-i-init : goal.loop-i-init
-loop-i-init c = (omega arith, all_none (at_most_at c.args.m c.args.list.now))
-
-pub returns-then-m-x : goal.returns-then-m-x
+within_is : (r : Bool) (m n : ℕ) (l : List ℕ) → n ≤ length l → MatchBool r (AllWithin (λ x. x ≤ m) (take n l) 0 (length (take n l))) ((k : ℕ) × (k < length (take n l)) × HoldsAt (λ x. m < x) (take n l) k)
+    → r ≡ all_below (at_most_at m l) n
 unfolding at_most_at
-returns-then-m-x c = let a = c.args in sym (all_fails (at_most_at a.m a.list.now) c.loop-i.i a.n c.loop-i-test.true (lt-leb (at a.list.now c.loop-i.i) a.m (omega (arith, c.word-x.ensures.0, c.if-m-x.true))))
+within_is true m n l h f = sym (all_of (at_most_at m l) n (λ k g. le-leb (at l k) m (rw (← get_or-take n l k 0 g) (f k 0 (omega arith) (omega (arith, length-take n l))))))
+within_is false m n l h (k, g, f) = let e = in_front n l k g in sym (all_fails (at_most_at m l) k n e.0 (lt-leb (at l k) m (rw (← e.1) (f 0))))
 
-pub loop-i-preserved : goal.loop-i-preserved
-unfolding at_most_at
-loop-i-preserved c = let a = c.args in (omega (arith, c.loop-i-test.true), all_more (at_most_at a.m a.list.now) c.loop-i.i c.loop-i.invariant.1 (le-leb (at a.list.now c.loop-i.i) a.m (omega (arith, c.word-x.ensures.0, c.if-m-x.false))))
+pub returns : goal.returns
+returns c =
+    let a = c.args in
+    within_is c.all.result a.m a.n a.list.now c.requires (cases_from_all _ _ _ (λ x. x ≤ a.m) (λ x. a.m < x) c.all.ensures.ran (YieldsList-from_slice (take a.n a.list.now) cc) (λ x q k. search (rules, tests)) (λ x q k. search (rules, tests)))

@@ -1,5 +1,3 @@
-use Prim.Native.Nat.{◌-◌}
-use Rattle.laws.specs.Lists.{at}
 use Rattle.simplify_room.proofs.Tally.{two_list}
 use Rattle.simplify_room.proofs.two_left.Goals as goal
 

@@ -1,20 +1,25 @@
-use mathlib.Core.Path.{ap}
-use Prim.Native.Nat.{◌-◌}
-use Rattle.simplify_lines.proofs.Literals.{reading_drop, reading_keep, told_satisfied, told_same, told_shorter, tag, tag_dropped}
-use native.Mathlib.Omega.{arith}
+use Prim.Native.Nat.{◌<◌}
+use lib.ListN.{length}
+use Rattle.laws.proofs.Parts.{read_each}
+use Rattle.kinds.specs.Clauses.{var_of}
+use Rattle.kinds.proofs.Told.{value_left}
+use Rattle.simplify_lines.proofs.Literals.{reading_drop, reading_keep, told_satisfied, told_same, told_shorter}
 use Rattle.simplify_room.proofs.verdict_at.Goals as goal
 
-pub loop-j-preserved-in_default-value : goal.loop-j-preserved-in_default-value
-loop-j-preserved-in_default-value c = reading_drop c.loop-j.invariant (λ z. omega (arith, c.loop-j-test.true)) c.lit_value-value.ensures (tag_dropped c.lit_value-value.result c.in_default.not-True c.in_default-value.not-Unassigned)
+pub lit_value-value-requires : goal.lit_value-value-requires
+lit_value-value-requires c = read_each (λ x. var_of x < length c.args.values.now) _ _ _ c.requires.by_index c.lits-lits.ensures _ c.loop-lit-test.true
 
-pub loop-j-preserved : goal.loop-j-preserved
-loop-j-preserved c = reading_keep c.loop-j.invariant (λ z. omega (arith, c.loop-j-test.true)) c.lit_value-value.ensures (ap tag c.in-Unassigned.is)
+pub loop-lit-preserved-in_default-value : goal.loop-lit-preserved-in_default-value
+loop-lit-preserved-in_default-value c = reading_drop c.loop-lit.invariant c.loop-lit-test.true c.lit_value-value.ensures (value_left _ c.in_default.not-True c.in_default-value.not-Unassigned)
 
-pub returns-in-loop-j : goal.returns-in-loop-j
-returns-in-loop-j c = told_satisfied c.loop-j.invariant (λ z. omega (arith, c.loop-j-test.true)) c.lit_value-value.ensures (ap tag c.in-True.is)
+pub loop-lit-preserved : goal.loop-lit-preserved
+loop-lit-preserved c = reading_keep c.loop-lit.invariant c.loop-lit-test.true c.lit_value-value.ensures c.in-Unassigned.is
 
-pub returns-then-kept-len : goal.returns-then-kept-len
-returns-then-kept-len c = told_same c.loop-j.invariant (omega (arith, c.loop-j.invariant.within)) c.if-kept-len.true
+pub returns-in-loop-lit : goal.returns-in-loop-lit
+returns-in-loop-lit c = rw (← c.lits-lits.ensures) (told_satisfied c.loop-lit.invariant c.loop-lit-test.true c.lit_value-value.ensures c.in-True.is)
+
+pub returns-then-kept-lits : goal.returns-then-kept-lits
+returns-then-kept-lits c = rw (← c.lits-lits.ensures) (told_same c.loop-lit.invariant c.loop-lit-test.false c.if-kept-lits.true)
 
 pub returns : goal.returns
-returns c = told_shorter c.loop-j.invariant (omega (arith, c.loop-j.invariant.within)) c.if-kept-len.false
+returns c = rw (← c.lits-lits.ensures) (told_shorter c.loop-lit.invariant c.loop-lit-test.false c.if-kept-lits.false)

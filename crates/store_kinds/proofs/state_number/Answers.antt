@@ -64,11 +64,11 @@ returns-in-13 c = sym (ap (at (state_numbers c.args.s)) c.in-13.is)
 
 pub returns-in-14 : goal.returns-in-14
 unfolding state_numbers
-returns-in-14 c = c.pattern-bump.ensures ∙ sym (ap (at (state_numbers c.args.s)) c.in-14.is)
+returns-in-14 c = c.pattern.ensures ∙ sym (ap (at (state_numbers c.args.s)) c.in-14.is)
 
 pub returns-in-15 : goal.returns-in-15
 unfolding state_numbers
-returns-in-15 c = c.pattern-inverse.ensures ∙ sym (ap (at (state_numbers c.args.s)) c.in-15.is)
+returns-in-15 c = c.pattern-in-15.ensures ∙ sym (ap (at (state_numbers c.args.s)) c.in-15.is)
 
 pub returns-in_default : goal.returns-in_default
 unfolding state_numbers

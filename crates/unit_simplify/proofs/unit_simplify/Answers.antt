@@ -1,63 +1,33 @@
-use mathlib.Core.Path.{◌≡◌, refl, sym, ap, ◌∙◌, subst}
+use mathlib.Core.Path.{refl}
 use mathlib.Core.Bool.{true}
 use mathlib.Core.List.{List}
 use Prim.Native.Nat.{ℕ}
-use Rattle.kinds.specs.Numbers.{refusal_number}
-use Rattle.kinds.specs.Lent.{Lent, lent, host_of}
-use Rattle.kinds.specs.Layout.{view, lay}
-use Rattle.calls.specs.Call.{unit_simplify, parts, everything}
-use Rattle.calls.specs.Outcome.{rebuild, judged, own_number, step, answer, refused}
-use Rattle.replies.proofs.Ways.{judge_number, judge_told}
-use Rattle.reduce_calls.proofs.Own.{simplifying, own_number_lem, own_told, step_told}
+use Rattle.std.proofs.lemmas.Result.{err_from_is_err_and}
+use Rattle.kinds.specs.Lent.{Lent, lent, lent_by}
+use Rattle.calls.specs.Call.{unit_simplify, parts}
+use Rattle.calls.specs.Outcome.{rebuild, step, answer}
+use Rattle.replies.proofs.Ways.{judge_refused, own_refused, step_taken}
 use Rattle.unit_simplify.proofs.unit_simplify.Goals as goal
 
-lends : parts unit_simplify ≡ everything
+pub returns-in_err-judge_all : goal.returns-in_err-judge_all
 unfolding parts
-lends = refl
+returns-in_err-judge_all c =
+    let a = c.args in
+    let k : List ℕ → Lent = λ w. lent a.s w a.clauses.now a.irred.now a.core.now a.mid.now a.local.now a.rows.now a.counts.now a.rec.now (lent_by a.host) in
+    let p = err_from_is_err_and c.from_residual.result c.from_residual.ensures.1 in
+    rw (p.1, p.2) (judge_refused unit_simplify k c.in_err-judge_all.ensures.1 c.in_err-judge_all.field-0.0 c.in_err-judge_all.ensures.0)
 
-answers : (k : Lent) → rebuild true ≡ answer unit_simplify (view k)
-unfolding answer
-answers k = refl
-
-pub refusal_of-requires : goal.refusal_of-requires
-refusal_of-requires c =
-    let held : List ℕ → Lent = λ w. lent c.args.s w c.args.clauses.now c.args.irred.now c.args.core.now c.args.mid.now c.args.local.now c.args.rows.now c.args.counts.now c.args.rec.now (host_of c.args.values.now c.args.kinds.now c.args.reasons.now c.args.levels.now c.args.trail.now c.args.assigned c.args.level) in
-    let j = c.judge_all-judging in
-    judge_number unit_simplify everything lends (held c.args.words.now) j.result j.ensures.0 c.if-judging-ne0.true
-
-pub returns-then-judging-ne0 : goal.returns-then-judging-ne0
-returns-then-judging-ne0 c =
-    let held : List ℕ → Lent = λ w. lent c.args.s w c.args.clauses.now c.args.irred.now c.args.core.now c.args.mid.now c.args.local.now c.args.rows.now c.args.counts.now c.args.rec.now (host_of c.args.values.now c.args.kinds.now c.args.reasons.now c.args.levels.now c.args.trail.now c.args.assigned c.args.level) in
-    let j = c.judge_all-judging in
-    ap (λ (w : List ℕ). refused (refusal_number c.refusal_of.result) (held w)) j.ensures.1 ∙ judge_told unit_simplify everything lends (held c.args.words.now) j.result j.ensures.0 c.if-judging-ne0.true c.refusal_of.result c.refusal_of.ensures
-
-pub refuse_unit_simplify-refusal-requires : goal.refuse_unit_simplify-refusal-requires
-refuse_unit_simplify-refusal-requires c =
-    let held : List ℕ → Lent = λ w. lent c.args.s w c.args.clauses.now c.args.irred.now c.args.core.now c.args.mid.now c.args.local.now c.args.rows.now c.args.counts.now c.args.rec.now (host_of c.args.values.now c.args.kinds.now c.args.reasons.now c.args.levels.now c.args.trail.now c.args.assigned c.args.level) in
-    let j = c.judge_all-judging in
-    subst (λ (w : List ℕ). judged everything (held w) ≡ 0) (sym j.ensures.1) (sym j.ensures.0 ∙ c.if-judging-ne0.false)
-
-pub refusal_of-requires-then-refusal-ne0 : goal.refusal_of-requires-then-refusal-ne0
-refusal_of-requires-then-refusal-ne0 c =
-    let held : List ℕ → Lent = λ w. lent c.args.s w c.args.clauses.now c.args.irred.now c.args.core.now c.args.mid.now c.args.local.now c.args.rows.now c.args.counts.now c.args.rec.now (host_of c.args.values.now c.args.kinds.now c.args.reasons.now c.args.levels.now c.args.trail.now c.args.assigned c.args.level) in
-    let j = c.judge_all-judging in
-    own_number_lem unit_simplify simplifying everything lends (held c.args.words.now) c.refuse_unit_simplify-refusal.result (c.refuse_unit_simplify-refusal.ensures ∙ ap (λ (w : List ℕ). own_number unit_simplify (held w)) j.ensures.1) c.if-refusal-ne0.true
-
-pub returns-then-refusal-ne0 : goal.returns-then-refusal-ne0
-returns-then-refusal-ne0 c =
-    let held : List ℕ → Lent = λ w. lent c.args.s w c.args.clauses.now c.args.irred.now c.args.core.now c.args.mid.now c.args.local.now c.args.rows.now c.args.counts.now c.args.rec.now (host_of c.args.values.now c.args.kinds.now c.args.reasons.now c.args.levels.now c.args.trail.now c.args.assigned c.args.level) in
-    let j = c.judge_all-judging in
-    ap (λ (w : List ℕ). refused (refusal_number c.refusal_of-then-refusal-ne0.result) (held w)) j.ensures.1 ∙ own_told unit_simplify simplifying everything lends (held c.args.words.now) (sym j.ensures.0 ∙ c.if-judging-ne0.false) c.refuse_unit_simplify-refusal.result (c.refuse_unit_simplify-refusal.ensures ∙ ap (λ (w : List ℕ). own_number unit_simplify (held w)) j.ensures.1) c.if-refusal-ne0.true c.refusal_of-then-refusal-ne0.result c.refusal_of-then-refusal-ne0.ensures
-
-pub simplify-simplified-requires : goal.simplify-simplified-requires
-simplify-simplified-requires c =
-    let held : List ℕ → Lent = λ w. lent c.args.s w c.args.clauses.now c.args.irred.now c.args.core.now c.args.mid.now c.args.local.now c.args.rows.now c.args.counts.now c.args.rec.now (host_of c.args.values.now c.args.kinds.now c.args.reasons.now c.args.levels.now c.args.trail.now c.args.assigned c.args.level) in
-    let j = c.judge_all-judging in
-    record { level_value = subst (λ (w : List ℕ). judged everything (held w) ≡ 0) (sym j.ensures.1) (sym j.ensures.0 ∙ c.if-judging-ne0.false); level_value_2 = subst (λ (w : List ℕ). own_number unit_simplify (held w) ≡ 0) (sym j.ensures.1) (sym (c.refuse_unit_simplify-refusal.ensures ∙ ap (λ (w : List ℕ). own_number unit_simplify (held w)) j.ensures.1) ∙ c.if-refusal-ne0.false) }
+pub returns-in_err-refuse_unit_simplify : goal.returns-in_err-refuse_unit_simplify
+unfolding parts
+returns-in_err-refuse_unit_simplify c =
+    let a = c.args in
+    let k : List ℕ → Lent = λ w. lent a.s w a.clauses.now a.irred.now a.core.now a.mid.now a.local.now a.rows.now a.counts.now a.rec.now (lent_by a.host) in
+    let p = err_from_is_err_and c.from_residual-in_err-refuse_unit_simplify.result c.from_residual-in_err-refuse_unit_simplify.ensures.1 in
+    rw (p.1, p.2) (own_refused unit_simplify k c.in_ok-judge_all.ensures.1 c.in_ok-judge_all.ensures.0 c.in_err-refuse_unit_simplify.field-0.0 c.in_err-refuse_unit_simplify.ensures)
 
 pub returns : goal.returns
-unfolding step
+unfolding parts step answer
 returns c =
-    let held : List ℕ → Lent = λ w. lent c.args.s w c.args.clauses.now c.args.irred.now c.args.core.now c.args.mid.now c.args.local.now c.args.rows.now c.args.counts.now c.args.rec.now (host_of c.args.values.now c.args.kinds.now c.args.reasons.now c.args.levels.now c.args.trail.now c.args.assigned c.args.level) in
-    let j = c.judge_all-judging in
-    step_told unit_simplify simplifying everything lends (held c.args.words.now) (sym j.ensures.0 ∙ c.if-judging-ne0.false) (sym (c.refuse_unit_simplify-refusal.ensures ∙ ap (λ (w : List ℕ). own_number unit_simplify (held w)) j.ensures.1) ∙ c.if-refusal-ne0.false) (c.simplify-simplified.ensures ∙ ap (λ (w : List ℕ). lay everything (held w) (step unit_simplify (view (held w)))) j.ensures.1) (rebuild true) (answers (held c.args.words.now))
+    let a = c.args in
+    let k : List ℕ → Lent = λ w. lent a.s w a.clauses.now a.irred.now a.core.now a.mid.now a.local.now a.rows.now a.counts.now a.rec.now (lent_by a.host) in
+    step_taken unit_simplify k c.in_ok-judge_all.ensures.1 c.in_ok-judge_all.ensures.0 c.in_ok-refuse_unit_simplify.ensures c.simplify-simplified.ensures (rebuild true) refl

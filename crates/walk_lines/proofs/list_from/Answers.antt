@@ -1,49 +1,43 @@
-use native.Mathlib.Omega.{arith}
-use Rattle.laws.proofs.Tests.{passed, failed}
-use Rattle.walk_lines.proofs.Numbers.{whole_small}
-use Rattle.walk_lines.proofs.Lists.{listed_none, list_start, list_full, list_unwhole, list_comma, list_other, list_long, list_digit, list_end_full, list_end_unwhole, list_end}
 use mathlib.Core.Path.{ap}
 use mathlib.Core.Bool.{not}
+use native.Mathlib.Omega.{arith}
+use lib.ListN.{length, length-drop}
+use Rattle.std.proofs.lemmas.Slice.{between_to_end}
+use Rattle.laws.proofs.Tests.{passed, failed}
+use Rattle.walk_lines.proofs.Lists.{listed_none, list_start, list_refused, list_comma, list_other, list_long, list_digit, list_end_refused, list_end}
 use Rattle.walk_lines.proofs.list_from.Goals as goal
+use Rattle.walk_lines.proofs.list_from.Goals.{then-b-eq44+in_ok-m, else-b-eq44+else-not-is_digit+else-k-eq10, then-not-is_digit-via-then-not-is_digit, then-not-is_digit-via-else-not-is_digit+then-k-eq10}
 
 pub returns-then-from-line : goal.returns-then-from-line
 returns-then-from-line c = listed_none c.args.line.now c.args.values.now c.args.from c.args.n c.if-from-line.true
 
-pub loop-i-init : goal.loop-i-init
-loop-i-init c = list_start c.requires.0 c.requires.1 c.if-from-line.false
+pub loop-b-init : goal.loop-b-init
+loop-b-init c = rw (between_to_end c.args.line.now c.args.from (length c.args.line.now) (omega arith)) (list_start c.requires.0 c.requires.1 (simp length-drop (omega arith)))
 
-pub returns-then-m-ge1024 : goal.returns-then-m-ge1024
-returns-then-m-ge1024 c = list_full c.loop-i.invariant c.loop-i-test.true c.if-b-eq44.true c.if-m-ge1024.true
-
-pub returns-then-not-is_whole : goal.returns-then-not-is_whole
-returns-then-not-is_whole c = list_unwhole c.loop-i.invariant c.loop-i-test.true c.if-b-eq44.true c.if-m-ge1024.false (failed c.is_whole.ensures (ap not c.if-not-is_whole.true))
-
-pub overflow_cast-values : goal.overflow_cast-values
-overflow_cast-values c = omega (arith, whole_small _ _ (passed c.is_whole.ensures (ap not c.if-not-is_whole.false)))
-
-pub loop-i-preserved-then-b-eq44 : goal.loop-i-preserved-then-b-eq44
-loop-i-preserved-then-b-eq44 c = list_comma c.loop-i.invariant c.loop-i-test.true c.if-b-eq44.true c.if-m-ge1024.false (passed c.is_whole.ensures (ap not c.if-not-is_whole.false))
+pub returns-in_err-m : goal.returns-in_err-m
+returns-in_err-m c = rw c.from_residual.ensures (list_refused c.loop-b.invariant c.loop-b-test.true c.if-b-eq44.true c.in_err-m.ensures)
 
 pub returns-then-not-is_digit : goal.returns-then-not-is_digit
-returns-then-not-is_digit c = list_other c.loop-i.invariant c.loop-i-test.true c.if-b-eq44.false (failed c.is_digit.ensures (ap not c.if-not-is_digit.true))
+returns-then-not-is_digit c =
+    let told = c.is_digit.ensures in
+    elim c.then-not-is_digit.branch [
+      | then-not-is_digit-via-then-not-is_digit w ↦ list_other c.loop-b.invariant c.loop-b-test.true c.if-b-eq44.false (failed told (ap not w.if-not-is_digit.true))
+      | then-not-is_digit-via-else-not-is_digit+then-k-eq10 w ↦ list_long c.loop-b.invariant c.loop-b-test.true c.if-b-eq44.false (passed told (ap not w.if-not-is_digit.false)) (omega arith)
+    ]
 
-pub returns-then-k-ge10 : goal.returns-then-k-ge10
-returns-then-k-ge10 c = list_long c.loop-i.invariant c.loop-i-test.true c.if-b-eq44.false (passed c.is_digit.ensures (ap not c.if-not-is_digit.false)) c.if-k-ge10.true
+pub loop-b-preserved : goal.loop-b-preserved
+loop-b-preserved c = elim c.if-b-eq44.branch [
+  | then-b-eq44+in_ok-m w ↦
+      let done = w.in_ok-m.ensures in
+      rw (w.values-is, w.k-is, w.v-is, w.m-is, done.0, done.3) (list_comma c.loop-b.invariant c.loop-b-test.true w.if-b-eq44.true done.1 done.2)
+  | else-b-eq44+else-not-is_digit+else-k-eq10 w ↦
+      rw (w.values-is, w.k-is, w.v-is, w.m-is) (list_digit c.loop-b.invariant c.loop-b-test.true w.if-b-eq44.false (passed w.is_digit.ensures (ap not w.if-not-is_digit.false)) (omega arith) w.with_digit-v.ensures)
+]
 
-pub with_digit-v-requires : goal.with_digit-v-requires
-with_digit-v-requires c = (c.if-k-ge10.false, c.loop-i.invariant.value, passed c.is_digit.ensures (ap not c.if-not-is_digit.false))
-
-pub loop-i-preserved : goal.loop-i-preserved
-loop-i-preserved c = list_digit c.loop-i.invariant c.loop-i-test.true c.if-b-eq44.false (passed c.is_digit.ensures (ap not c.if-not-is_digit.false)) c.if-k-ge10.false c.with_digit-v.ensures
-
-pub returns-then-m-ge1024-2 : goal.returns-then-m-ge1024-2
-returns-then-m-ge1024-2 c = list_end_full c.loop-i.invariant c.loop-i-test.false c.if-m-ge1024-2.true
-
-pub returns-then-not-is_whole-2 : goal.returns-then-not-is_whole-2
-returns-then-not-is_whole-2 c = list_end_unwhole c.loop-i.invariant c.loop-i-test.false c.if-m-ge1024-2.false (failed c.is_whole-2.ensures (ap not c.if-not-is_whole-2.true))
-
-pub overflow_cast-values-2 : goal.overflow_cast-values-2
-overflow_cast-values-2 c = omega (arith, whole_small _ _ (passed c.is_whole-2.ensures (ap not c.if-not-is_whole-2.false)))
+pub returns-in_err-m-2 : goal.returns-in_err-m-2
+returns-in_err-m-2 c = rw c.from_residual-in_err-m-2.ensures (list_end_refused c.loop-b.invariant c.loop-b-test.false c.in_err-m-2.ensures)
 
 pub returns : goal.returns
-returns c = list_end c.loop-i.invariant c.loop-i-test.false c.if-m-ge1024-2.false (passed c.is_whole-2.ensures (ap not c.if-not-is_whole-2.false))
+returns c =
+    let done = c.in_ok-m-2.ensures in
+    rw (done.0, done.3) (list_end c.loop-b.invariant c.loop-b-test.false done.1 done.2)

@@ -1,11 +1,11 @@
 use mathlib.Core.Path.{ap, ◌∙◌}
+use mathlib.Core.Bool.{not}
 use Prim.Native.Nat.{◌≤◌, ◌<◌}
 use native.Mathlib.Omega.{arith}
 use native.Mathlib.Numerals.{add-one}
 use Rattle.laws.proofs.Tests.{passed, failed}
 use Rattle.walk_lines.specs.Told.{number_of}
 use Rattle.walk_lines.proofs.Numbers.{number_digit, number_long, number_stop, number_end}
-use mathlib.Core.Bool.{not}
 use Rattle.walk_lines.proofs.number_at.Goals as goal
 
 pub returns-then-not-is_digit : goal.returns-then-not-is_digit
@@ -27,4 +27,4 @@ loop-i-preserved c =
     (omega arith, rw add-one c.with_digit-v.ensures.1, rw c.with_digit-v.ensures.0 (number_digit _ _ _ _ _ c.loop-i.invariant.2 c.loop-i-test.true (passed c.is_digit.ensures (ap not c.if-not-is_digit.false)) fewer))
 
 pub returns : goal.returns
-returns c = ap (number_of c.args.line.now) c.number_of-2.ensures ∙ number_end _ _ _ _ _ c.loop-i.invariant.2 c.loop-i-test.false
+returns c = ap (number_of c.args.line.now) c.number_of-2.ensures ∙ number_end _ _ _ _ _ c.loop-i.invariant.2 _ c.loop-i-test.false (omega arith)

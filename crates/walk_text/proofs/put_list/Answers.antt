@@ -1,25 +1,32 @@
-use native.Mathlib.Omega.{arith}
-use mathlib.Core.Path.{refl, ◌∙◌}
-use Prim.Native.Nat.{◌-◌}
-use Rattle.walk_text.proofs.Listing.{empty_list, first_number, next_number, no_number, within}
+use Rattle.std.proofs.Common.{◌≡◌, [], ◌∷◌, drop, drop-cons, add-one, ◌+◌}
+use Rattle.std.proofs.Math.ListN.{drop_of_length-le}
+use Rattle.std.proofs.lemmas.List.{nil_from_length}
+use Rattle.walk_text.specs.Numbers.{commas}
+use Rattle.walk_text.proofs.Listing.{begun, went_on, ended, within}
 use Rattle.walk_text.proofs.put_list.Goals as goal
 
-pub returns-then-list-eq0 : goal.returns-then-list-eq0
-returns-then-list-eq0 c = empty_list _ c.args.list.now _ _ c.if-list-eq0.true c.least.ensures
+pub returns-in_default : goal.returns-in_default
+unfolding commas
+returns-in_default g c =
+    let none : c.args.list.now ≡ [] = nil_from_length _ c.in_default.ensures.cases in
+    rw none c.put_text.ensures
 
-pub loop-i-init : goal.loop-i-init
-loop-i-init c =
+pub loop-n-init : goal.loop-n-init
+loop-n-init g c =
     let first = c.put_number-to in
-    (within _ _ _ _ _ first.ensures first.auto.out, refl, refl)
+    let whole : c.args.list.now ≡ c.in-Some.first.now ∷ c.in-Some.rest.now = c.in-Some.ensures.cases.0 in
+    (within _ _ _ _ _ first.ensures first.auto.out, rw whole (begun _ _ _ _ _ _ (rw c.value.ensures at first.ensures)))
 
-pub loop-i-preserved : goal.loop-i-preserved
-loop-i-preserved c =
-    let l = c.loop-i in
+pub loop-n-preserved : goal.loop-n-preserved
+loop-n-preserved g c =
+    let l = c.loop-n in
     let next = c.put_further-to in
-    (within _ _ _ _ _ next.ensures next.auto.out, next.auto.out ∙ l.invariant.1, next_number l.out _ c.args.list.now l.to _ l.i _ c.loop-i-test.true next.ensures l.invariant.2)
+    let rest = c.in-Some.rest.now in
+    let one : drop l.n-index rest ≡ c.n-item.result ∷ drop (l.n-index + 1) rest = rw (drop-cons rest l.n-index c.n-item.result c.loop-n-test.true, add-one, ← c.n-item.is) in
+    (within _ _ _ _ _ next.ensures next.auto.out, went_on l.out _ l.to _ _ _ _ (rw c.value-in-loop-n.ensures at next.ensures) (rw one at l.invariant.1))
 
 pub returns : goal.returns
-returns c =
-    let l = c.loop-i in
-    let list = c.args.list.now in
-    no_number l.out list l.to l.i _ c.loop-i-test.false l.invariant.0 (l.invariant.2 ∙ first_number _ _ list _ _ (omega arith) c.put_number-to.ensures)
+returns g c =
+    let l = c.loop-n in
+    let none : drop l.n-index c.in-Some.rest.now ≡ [] = drop_of_length-le _ c.loop-n-test.false in
+    ended l.out l.to _ l.invariant.0 (rw none at l.invariant.1)
