@@ -11,11 +11,10 @@ pub fn add_clause(words: &mut [u32], used: usize, tier: u32, glue: usize, lits: 
     requires { (used + (length lits.now + 3) ≤ length words.old) × (tier < 4) × (length lits.now < 2 ^ 32) }
     ensures { words.new ≡ sets words.old used (new_words tier glue lits.now) }
 {
-    let start = used + 3;
     words[used] = 0;
     words[used + 1] = header::new_head(tier, glue);
     words[used + 2] = lits.len() as u32;
-    words[start..start + lits.len()].copy_from_slice(lits);
+    buffers::copy(words, used + 3, lits, 0, lits.len());
 }
 
 // "A clause's literals are handed back as the part of the word buffer that holds them." The clause ends within the buffer, as every listed one does.

@@ -36,12 +36,14 @@ pub fn clear(words: &mut [u32], from: usize, to: usize)
     words[from..to].fill(0);
 }
 
-// n numbers of `from`, from `start` on, over those of `to` from `place` on.
+// n numbers of `from`, from `start` on, over those of `to` from `place` on. Number by number: `copy_from_slice` would want `memmove` of whoever links the static library.
 pub fn copy(to: &mut [u32], place: usize, from: &[u32], start: usize, n: usize)
     requires { (place + n ≤ length to.old) × (start + n ≤ length from.now) }
     ensures { to.new ≡ sets to.old place (read_n from.now start n) }
 {
-    to[place..place + n].copy_from_slice(&from[start..start + n]);
+    for i in 0..n {
+        to[place + i] = from[start + i];
+    }
 }
 
 // n numbers moved down inside one buffer; the two places may overlap.
