@@ -1,14 +1,12 @@
 -- What one test says of a clause. Assumes nothing.
-use mathlib.Core.Path.{◌≡◌, ap}
+use mathlib.Core.Path.{◌≡◌}
 use mathlib.Core.Bool.{Bool, true, false}
 use mathlib.Core.List.{List, [], ◌∷◌}
-use Prim.Native.Nat.{ℕ, ◌+◌, ◌<◌}
-use native.Mathlib.Omega.{arith}
+use Prim.Native.Nat.{ℕ}
 use lib.ListN.{length}
 use Rattle.laws.specs.Fold.{any_below}
 use Rattle.laws.specs.Lists.{at, list_at}
-use Rattle.laws.proofs.Reading.{length_read, at_read}
-use Rattle.kinds.specs.Clauses.{len_at, lits_at, deleted_at, neg, var_of}
+use Rattle.kinds.specs.Clauses.{lits_at, deleted_at, neg}
 use Rattle.calls.specs.StorePasses.{live_at}
 use Rattle.calls.specs.Refusing.{lacking}
 use Rattle.lacking.specs.Lacks.{long_lacks, pair_lacks, row_lacks}

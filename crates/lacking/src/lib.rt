@@ -18,11 +18,10 @@ pub fn lacks(lits: &[u32], values: &[u8]) -> bool
     let mut free = 0usize;
     for &lit in lits {
         let value = kinds::lit_value(values, Lit(lit));
-        let LitValue::True = value else {
-            let LitValue::Unassigned = value else {
-                continue;
-            };
+        if let LitValue::Unassigned = value {
             free += 1;
+        }
+        let LitValue::True = value else {
             continue;
         };
         return false;

@@ -40,11 +40,10 @@ pub fn simplify_long(
             let mut kept = 0;
             for &lit in lits {
                 let value = kinds::lit_value(values, Lit(lit));
-                let LitValue::True = value else {
-                    let LitValue::Unassigned = value else {
-                        continue;
-                    };
+                if let LitValue::Unassigned = value {
                     kept += 1;
+                }
+                let LitValue::True = value else {
                     continue;
                 };
                 break 'lits Verdict::Satisfied;

@@ -24,11 +24,10 @@ pub fn verdict_at(words: &[u32], offset: usize, values: &[u8]) -> Verdict
     let mut kept = 0;
     for &lit in lits {
         let value = kinds::lit_value(values, Lit(lit));
-        let LitValue::True = value else {
-            let LitValue::Unassigned = value else {
-                continue;
-            };
+        if let LitValue::Unassigned = value {
             kept += 1;
+        }
+        let LitValue::True = value else {
             continue;
         };
         return Verdict::Satisfied;

@@ -12,7 +12,7 @@ use Rattle.calls.specs.Simplifying.{verdict_of}
 use Rattle.simplify_lines.proofs.Literals.{reading_drop, reading_keep, told_satisfied, told_same, told_shorter, verdict_left}
 use Rattle.simplify_long.proofs.Turned.{turned_start, turned_end, turn_deleted, turn_satisfied, turn_same, turn_binary, turn_front, ends, vars, one_there, gone_sum, satisfied_room, left_is, short_room, m_small, m_few, strike_room, kept_room, pair_there, pair_requires, pair_fits, pairs_few}
 use native.Mathlib.Omega.{arith}
-use Rattle.simplify_long.proofs.simplify_long.Goals.{In_default-verdict, In-Shorter, then-loop-lit-test+in-True, else-loop-lit-test+then-kept-lits, else-loop-lit-test+else-kept-lits}
+use Rattle.simplify_long.proofs.simplify_long.Goals.{In_default-verdict, In-Shorter, then-loop-lit-test+in-True, else-loop-lit-test+then-kept-lits, else-loop-lit-test+else-kept-lits, in-Unassigned, in_default}
 use Rattle.simplify_long.proofs.simplify_long.Goals as goal
 
 -- the clause is live, and what the literal loop found: where it is not shorter, and where it is
@@ -53,11 +53,11 @@ lit_value-value-requires c =
     let d = sym c.deleted_of.ensures ∙ c.if-deleted_of.false in
     read_each (λ x. var_of x < length c.args.values.now) _ _ _ (vars c.clauses.invariant c.requires c.clauses-test.true d) c.lits-lits.ensures _ c.loop-lit-test.true
 
-pub loop-lit-preserved-in_default-value : goal.loop-lit-preserved-in_default-value
-loop-lit-preserved-in_default-value c = reading_drop c.loop-lit.invariant c.loop-lit-test.true c.lit_value-value.ensures (value_left _ c.in_default.not-True c.in_default-value.not-Unassigned)
-
 pub loop-lit-preserved : goal.loop-lit-preserved
-loop-lit-preserved c = reading_keep c.loop-lit.invariant c.loop-lit-test.true c.lit_value-value.ensures c.in-Unassigned.is
+loop-lit-preserved c = elim c.match-value.branch [
+  | in-Unassigned w ↦ rw w.kept-is (reading_keep c.loop-lit.invariant c.loop-lit-test.true c.lit_value-value.ensures w.in-Unassigned.is)
+  | in_default w ↦ rw w.kept-is (reading_drop c.loop-lit.invariant c.loop-lit-test.true c.lit_value-value.ensures (value_left _ c.in_default-value.not-True w.in_default.not-Unassigned))
+]
 
 pub strike-end-requires : goal.strike-end-requires
 strike-end-requires c =
