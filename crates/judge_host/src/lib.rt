@@ -20,11 +20,17 @@ fn bytes_at_most(bytes: &[u8], most: u8) -> bool
 }
 
 // Refusal 1 was judged before: a level for each variable.
+// A loop: `all` takes longer, and each call on clauses judges every level.
 pub fn levels_pass(vars: usize, levels: &[u32]) -> bool
     requires { vars ≤ length levels.now }
     ensures { result ≡ all_below (at_most_at vars levels.now) vars }
 {
-    levels[..vars].iter().all(|level| *level as usize <= vars)
+    for level in &levels[..vars] {
+        if vars < *level as usize {
+            return false;
+        }
+    }
+    true
 }
 
 // ---- "trail codes .. are in range", "each variable once"

@@ -166,13 +166,14 @@ pub fn assessed(answer: Result<Assessed, Refusal>) -> AssessedNumbers
     }
 }
 
+// The new activity number by number: a struct moved whole goes through memory here, which takes as long again as the call.
 pub fn decay_set(a: ClauseActivity, answer: Result<ClauseActivity, Refusal>) -> DecayNumbers
     ensures { (result.number ≡ number_of answer) × (result.activity ≡ activity_after a answer) }
 {
     match answer {
-        Ok(activity) => DecayNumbers {
+        Ok(ClauseActivity { bump, inv_decay }) => DecayNumbers {
             number: 0,
-            activity,
+            activity: ClauseActivity { bump, inv_decay },
         },
         Err(refusal) => DecayNumbers {
             number: u32::from(refusal),
