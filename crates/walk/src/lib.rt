@@ -86,7 +86,7 @@ fn carry_out(
     walk_show::answer(page, op, answer, walk.answers);
 }
 
-// A line of bytes, whatever they are, is read and carried out.
+// A line of bytes, whatever they are, is read and carried out. The page is filled from its start.
 pub fn walk_line(
     walk: &mut Walk,
     text: &[u8],
@@ -94,6 +94,7 @@ pub fn walk_line(
     buffers: &mut Buffers,
     page: &mut Page,
 ) {
+    page.next = 0;
     let line = walk_lines::read_line(text, numbers);
     carry_out(walk, line, numbers, buffers, page);
 }

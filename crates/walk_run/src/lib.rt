@@ -68,7 +68,6 @@ fn walk_through(rt: &impl Print, text: &[u8]) -> io::Result<()> {
     };
     for line in text.split_inclusive(|b| *b == b'\n') {
         let line = line.strip_suffix(b"\n").unwrap_or(line);
-        page.next = 0;
         walk::walk_line(&mut walk, line, &mut numbers, &mut buffers, &mut page);
         rt.write_all(&page.bytes[..page.next.min(1048576)])?;
     }

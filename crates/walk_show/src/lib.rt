@@ -273,7 +273,13 @@ pub fn dump(page: &mut Page, walk: &Walk, lent: &Lent<'_>) {
 fn nonzero(list: &[u32]) -> usize
     ensures { result ≤ length list.now }
 {
-    list.iter().filter(|x| **x != 0).count()
+    let mut n = 0;
+    for x in list {
+        if *x != 0 {
+            n += 1;
+        }
+    }
+    n
 }
 
 // "of each lent buffer, how many numbers behind its used part .. are not 0"

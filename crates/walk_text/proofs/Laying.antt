@@ -1,13 +1,13 @@
 -- Text laid on a page, byte by byte and piece by piece. Assumes nothing.
 use mathlib.Core.Path.{◌≡◌, refl, sym, ap, ap₂, ◌∙◌}
-use mathlib.Core.List.{List, [], ◌∷◌, ◌++◌, append_assoc}
-use Prim.Native.Nat.{ℕ, suc, ◌+◌, ◌-◌, ◌≤◌, ◌<◌, min}
-use native.Mathlib.Decide.{dec_le, dec_lt}
+use mathlib.Core.List.{List, [], ◌∷◌, ◌++◌}
+use Prim.Native.Nat.{ℕ, suc, ◌+◌, ◌≤◌, ◌<◌, min}
+use native.Mathlib.Decide.{dec_lt}
 use native.Mathlib.Omega.{arith}
+use native.Mathlib.Numerals.{add-one}
 use native.Mathlib.Nat.{min-eq_right}
-use lib.ListN.{length, set, take, drop, length-append, length-take, take-append-drop}
-use lib.Seq.{sets, set_out, length-sets, sets-eq, take_all}
-use borrow.Rule.Slice.PartMut.{put_mid, Post-is}
+use lib.ListN.{length, get_or, set, drop, length-set, length-append, drop_of_length-le}
+use lib.Seq.{sets, set_out, length-sets, drop-cons}
 use Rattle.walk_text.specs.declared.Page.{Page}
 use Rattle.walk_text.specs.Page.{page, written}
 
@@ -29,30 +29,33 @@ sets_cut vs l n i e = go (dec_lt i n)
     go (yes h) = ap (λ (k : ℕ). sets l k vs) (min-eq_right {n = i} {m = n} (omega arith))
     go (no h) = sets_past vs l (min n i) (omega arith) ∙ sym (sets_past vs l i (omega arith))
 
--- nor what there is no room for
-left_out : (l vs : List ℕ) (i n : ℕ) → i ≤ length l → n ≡ min (length vs) (length l - i) → sets l i (take n vs) ≡ sets l i vs
-left_out l vs i n h e = go (dec_le (length vs) n)
-  where
-    go : Dec (length vs ≤ n) → sets l i (take n vs) ≡ sets l i vs
-    go (yes g) = ap (sets l i) (take_all n vs g)
-    go (no g) =
-        let past : length (sets l i (take n vs)) ≤ i + length (take n vs) = simp (length-sets, length-take) (omega arith) in
-        sym (sets_past (drop n vs) (sets l i (take n vs)) (i + length (take n vs)) past) ∙ sets_append (take n vs) (drop n vs) l i ∙ ap (sets l i) (take-append-drop n vs)
-
--- a text copied to a page from a place on, cut at the end
-pub copied : (out text : List ℕ) (at from n : ℕ) → from ≡ min at (length out) → n ≡ min (length text) (length out - from)
-    → page (put_mid from (from + n - from) out (take n text)) (from + n) ≡ written text (page out at)
+-- no room for the rest of a text
+pub full : (out rest : List ℕ) (to : ℕ) → length out ≤ to → to ≤ length out → written rest (page out to) ≡ page out to
 unfolding written
-copied out text at from n e f =
-    let inside : from ≤ length out = omega arith in
-    let long : length (take n text) ≡ n = simp length-take (omega arith) in
-    let fits : from + length (take n text) ≤ length out = omega arith in
-    let place : from + n ≡ min (length out) (at + length text) = omega arith in
-    let swap : from ≡ min (length out) at = omega arith in
-    let laid : sets out from (take n text) ≡ put_mid from (from + n - from) out (take n text)
-    = sets-eq (take n text) out from fits ∙ (rw (long, Post-is from (from + n) out (omega arith)) (append_assoc (take from out) (take n text) (drop (from + n) out))) in
-    let whole : sets out from text ≡ sets out at text = rw swap (sets_cut text out (length out) at refl) in
-    ap₂ (λ (b : List ℕ) (k : ℕ). page b k) (sym laid ∙ left_out out text from n inside f ∙ whole) place
+full out rest to h g = ap₂ (λ (b : List ℕ) (n : ℕ). page b n) (sets_past rest out to h) (omega arith)
+
+-- nor for a text from a place past the end
+pub past_end : (out text : List ℕ) (at : ℕ) → length out ≤ at → page out (length out) ≡ written text (page out at)
+unfolding written
+past_end out text at h = ap₂ (λ (b : List ℕ) (n : ℕ). page b n) (sym (sets_past text out at h)) (omega arith)
+
+-- no rest of a text
+pub ended : (out text : List ℕ) (i to : ℕ) → length text ≤ i → to ≤ length out → written (drop i text) (page out to) ≡ page out to
+unfolding written
+ended out text i to h g =
+    let none : drop i text ≡ [] = drop_of_length-le text {i = i} h in
+    let place : min (length out) (to + 0) ≡ to = omega arith in
+    rw none (ap (λ (n : ℕ). page out n) place)
+
+-- one byte of a text
+pub turn : (out text : List ℕ) (i to : ℕ) → i < length text → written (drop i text) (page out to) ≡ written (drop (i + 1) text) (page (set out to (get_or text i 0)) (to + 1))
+unfolding written
+turn out text i to h =
+    let place : to + suc (length (drop (suc i) text)) ≡ suc to + length (drop (suc i) text) = omega arith in
+    rw (drop-cons text i 0 h, add-one, add-one, length-set out to (get_or text i 0), place)
+
+pub fits : (out : List ℕ) (to x : ℕ) → to < length out → to + 1 ≤ length (set out to x)
+fits out to x h = rw (length-set out to x) (omega arith)
 
 -- a text behind a text
 pub behind : (us vs : List ℕ) (p : Page) → written vs (written us p) ≡ written (us ++ vs) p

@@ -57,14 +57,22 @@ impl Page {
     }
 }
 
-// A text from a place on, cut at the end. Returns the place behind it.
+// A text from a place on, cut at the end. Returns the place behind it. Byte by byte, with the end looked for at each: a copy of a counted length becomes a call, which costs more than most texts, short as they are.
 pub fn put_text(out: &mut [u8], at: usize, text: &[u8]) -> usize
     ensures { page out.new result ≡ written text.now (page out.old at) }
 {
-    let from = at.min(out.len());
-    let n = text.len().min(out.len() - from);
-    out[from..from + n].copy_from_slice(&text[..n]);
-    from + n
+    if at >= out.len() {
+        return out.len();
+    }
+    let mut to = at;
+    for byte in text {
+        if to >= out.len() {
+            return to;
+        }
+        out[to] = *byte;
+        to += 1;
+    }
+    to
 }
 
 // The last digit of n.
