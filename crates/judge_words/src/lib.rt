@@ -151,7 +151,8 @@ fn counts_ok(used: usize, counts: [usize; 4], words: &[u32], clauses: &[u32]) ->
     requires placed { placed words.now used clauses.now (length clauses.now) ≡ true }
     ensures { result ≡ counts_ok words.now clauses.now (length clauses.now) counts }
 {
-    counts == tally(used, words, clauses)
+    let live = tally(used, words, clauses);
+    counts == live
 }
 
 // ---- "Garbage plus live words (length + 3 each) is at most the used length."
