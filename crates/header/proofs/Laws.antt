@@ -1,17 +1,22 @@
--- A field of n binary digits from place k on of a word of k + n + m: what a mask, a shift and an `|` write there, and that a write leaves every other field.
+-- A field of n binary digits from place k on of a word of k + n + m: what a shift and a mask read there, what a mask, a shift and an `|` write there, and that a write leaves every other field.
 -- Assumes nothing.
 use mathlib.Core.Path.{◌≡◌, refl, sym, ap, ap₂, ◌∙◌, subst}
 use Prim.Native.Nat.{ℕ, ◌+◌, ◌-◌, ◌*◌, ◌/◌, ◌%◌, ◌^◌, ◌≤◌, ◌<◌}
 use native.Mathlib.Omega.{arith}
-use native.Mathlib.Nat.{one-mul, mul-one, mul_assoc, add-mul, le_of_eq, mul-le-mul_left, le-add_right, lt_of_lt_of_le, le_trans, mod-lt, mod-eq_of_lt, mul_comm, zero-mul, zero-add, add_comm, add_assoc, add-sub_of_le, div-lt_iff_lt-mul}
+use native.Mathlib.Decide.{ℕ_discrete}
+use native.Mathlib.Nat.{one-mul, div-one, mul-one, mul_assoc, add-mul, le_of_eq, mul-le-mul_left, le-add_right, lt_of_lt_of_le, le_trans, mod-lt, mod-eq_of_lt, mul_comm, zero-mul, zero-add, add_comm, add_assoc, add-sub_of_le, div-lt_iff_lt-mul}
 use lib.Arith.{digits_lt}
 use lib.Pow.{pow-add, pow_pos, pow_mono, pow-lt, split, high, low, ones_lt, field, shl_lt, shr-shr, mod-mod-pow}
-use mathlib.Core.Bool.{Bool, true, false}
+use mathlib.Core.Bool.{Bool, true, false, not}
 use mir.Val.{bool_byte}
-use lib.Dec.{lit<}
+use lib.Dec.{lit<, eqb}
 use lib.Bits.{bit_and, bit_or, and_mask, and_block, or_block, or_zero_r, or_shifted_r}
 use Rattle.laws.specs.Fold.{one}
 use Rattle.kinds.specs.Header as spec
+
+-- ---- reading: `(w >> k) & (2 ^ n - 1)`
+pub read : (k n w : ℕ) → bit_and (w / 2 ^ k) (2 ^ n - 1) ≡ spec.field k n w
+read k n w = and_mask (w / 2 ^ k) n
 
 -- ---- writing: `(w & M) | (v << k)`, where M has ones outside the field
 lows : (k n w : ℕ) → w % 2 ^ (k + n) % 2 ^ k ≡ w % 2 ^ k
@@ -85,6 +90,9 @@ module _ (k n v w : ℕ) (g : v < 2 ^ n) where
       ∙ field w l i
 
 -- ---- at place 0, and of one digit
+pub read0 : (n w : ℕ) → bit_and w (2 ^ n - 1) ≡ spec.field 0 n w
+read0 n w = ap (λ (x : ℕ). bit_and x (2 ^ n - 1)) (sym (div-one w)) ∙ read 0 n w
+
 pub store0 : (m n M w v : ℕ) → M ≡ (2 ^ m - 1) * 2 ^ (0 + n) + 0 → w < 2 ^ (m + (0 + n)) → v < 2 ^ n → bit_or (bit_and w M) v ≡ spec.put 0 n v w
 store0 m n M w v e h g = ap (bit_or (bit_and w M)) (sym (mul-one v)) ∙ write m 0 n M w v e h g
 
@@ -126,6 +134,17 @@ store_flag at w on h W =
     ap (λ (x : ℕ). bit_or (bit_and w (0xffff_ffff - 1 * 2 ^ at % 0x1_0000_0000)) (bool_byte on * 2 ^ at % 2 ^ x)) (sym e)
     ∙ store (31 - at) at 1 (0xffff_ffff - 1 * 2 ^ at % 0x1_0000_0000) w (bool_byte on) (mask at h) (subst (λ (x : ℕ). w < 2 ^ x) (sym e) W) (flag_lt on)
     ∙ ap (λ (v : ℕ). spec.put at 1 v w) (flag on)
+
+-- ---- a flag is set where its digit is 1
+digit : (x : ℕ) → x < 2 → not (eqb x 0) ≡ eqb x 1
+digit x h = go (ℕ_discrete x 0)
+  where
+    go : Dec (x ≡ 0) → not (eqb x 0) ≡ eqb x 1
+    go (yes e) = rw e
+    go (no n) = let e : x ≡ 1 = omega arith in rw e
+
+pub read_flag : (k w : ℕ) → not (eqb (bit_and (w / 2 ^ k) 1) 0) ≡ eqb (spec.field k 1 w) 1
+read_flag k w = ap (λ (x : ℕ). not (eqb x 0)) (read k 1 w) ∙ digit (spec.field k 1 w) (mod-lt (w / 2 ^ k) (pow_pos 1))
 
 -- what a field of n digits holds is below 2 ^ n
 pub field_lt : (k n w : ℕ) → spec.field k n w < 2 ^ n

@@ -1,8 +1,9 @@
 -- The ways through a public call, in the code's terms: what the judging gave, what the call's own refusals gave, what the step left. Assumes nothing.
 use mathlib.Core.Path.{◌≡◌, refl, sym, ap, ◌∙◌}
-use mathlib.Core.Bool.{true, false}
+use mathlib.Core.Bool.{Bool, true, false, cond, not}
 use mathlib.Core.List.{List, []}
-use Prim.Native.Nat.{ℕ}
+use Prim.Native.Nat.{ℕ, ◌≤◌}
+use native.Mathlib.Omega.{arith}
 use lib.ListN.{length}
 use Rattle.kinds.specs.Numbers.{refusal_number}
 use Rattle.kinds.specs.Lent.{Lent, Parts}
@@ -14,10 +15,26 @@ use Rattle.std.specs.Result.{is_err}
 use Rattle.std.specs.Prelude.{Result, Ok, Err}
 use Rattle.calls.specs.Answers.{number_of}
 use Rattle.calls.specs.Call.{Command, parts}
+use Rattle.calls.specs.Size.{sizes_ok}
+use Rattle.calls.specs.StorePasses.{store_passes}
+use Rattle.calls.specs.HostPasses.{host_passes}
+use Rattle.calls.specs.Refusing.{lowest}
 use Rattle.calls.specs.Outcome.{Outcome, Answer, part_of, judged, own_number, step, answer, refused, accepted, done}
 use Rattle.calls.proofs.Laws.{judge_refuses, call_refuses, call_accepts}
 use Rattle.calls.proofs.Judged.{sizes_judged}
 use Rattle.calls.proofs.Unchanged.{unchanged}
+
+-- ---- the judging gives at most 3
+
+one_of : (a b c : Bool) → cond (not a) 1 (cond (not b) 2 (cond (not c) 3 0)) ≤ 3
+one_of true true true = omega arith
+one_of true true false = omega arith
+one_of true false c = omega arith
+one_of false b c = omega arith
+
+pub judged_most : (p : Parts) (k : Lent) → judged p k ≤ 3
+unfolding judged lowest
+judged_most p k = one_of (sizes_ok p k) (store_passes p (view k)) (host_passes p (view k))
 
 -- a refusal's number is never 0
 pub refusal_given : (r : Refusal) → refusal_number r ≡ 0 → ⊥

@@ -24,3 +24,17 @@ module _ (ns a b c d : List ℕ) (t x : ℕ) (bs : List (List ℕ)) (e : length 
   pushed =
       let w = within ns a b c d e (h.1, h.2, h.3, h.4) in
       (now ∙ each_push ns (four a b c d) t x w h.0 room, lengths_each_push ns (four a b c d) t x w)
+
+-- the list of a tier by its number
+module _ (a b c d : List ℕ) (t : ℕ) where
+  pub in_irred : t ≡ 0 → list_at (four a b c d) t ≡ a
+  in_irred e = rw e
+
+  pub in_core : t ≡ 1 → list_at (four a b c d) t ≡ b
+  in_core e = rw e
+
+  pub in_mid : t ≡ 2 → list_at (four a b c d) t ≡ c
+  in_mid e = rw e
+
+  pub in_local : t < 4 → (t ≡ 0 → ⊥) → (t ≡ 1 → ⊥) → (t ≡ 2 → ⊥) → list_at (four a b c d) t ≡ d
+  in_local h p q r = let e : t ≡ 3 = omega arith in rw e

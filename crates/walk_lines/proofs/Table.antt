@@ -99,3 +99,22 @@ module _ {table : List (Bor (List ℕ))} (all : Patterns table) (i : ℕ) (d : B
 
   pub pattern_matching : (t : Taken) (line : List ℕ) → t ≡ matching (get_or table i d).now line → t ≡ matching (pattern_at i) line
   pattern_matching t line found = rw (← pattern_is) found
+
+-- ---- the last arm: a number that is none of the k numbers from l on, as a `match` tells it
+
+abbrev pub NoneOf : ℕ → ℕ → ℕ → Type 0
+NoneOf l zero i = Unit {0}
+NoneOf l (suc k) i = NoneOf l k i × (i ≡ l + k → ⊥)
+
+none_of : (l k i : ℕ) → NoneOf l k i → l ≤ i → l + k ≤ i
+none_of l zero i n h = omega arith
+none_of l (suc k) i n h =
+    let p : l + k ≤ i = none_of l k i n.0 h in
+    let q : i ≡ l + k → ⊥ = n.1 in
+    omega arith
+
+pub last_of : (l k i : ℕ) → NoneOf l k i → l ≤ i → i < suc (l + k) → i ≡ l + k
+last_of l k i n h less = let p : l + k ≤ i = none_of l k i n h in omega arith
+
+pub last_from_0 : (k i : ℕ) → NoneOf 0 k i → i < suc k → i ≡ k
+last_from_0 k i n less = let p : 0 + k ≤ i = none_of 0 k i n (omega arith) in omega arith
