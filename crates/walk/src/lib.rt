@@ -1,17 +1,20 @@
 // A line is carried out on the walk's buffers, and what it prints is laid on a page.
 #![tactic(auto)]
 
-use kinds::Refusal;
-use walk_kinds::{Buffers, Said, Walk};
+ghost use Rattle.walk_text.specs.Page.{SameSlice};
+
+use walk_kinds::{Buffers, Told, Walk};
 use walk_lines::Line;
 use walk_text::Page;
 
 // `op=start`, and the host's side with it.
-fn start(walk: &mut Walk, buffers: &mut Buffers, vars: usize) -> Result<Said, Refusal> {
+fn start(walk: &mut Walk, buffers: &mut Buffers, vars: usize) -> Told {
     let lent = buffers.lend(walk.rooms, vars);
-    let said = walk_calls::start(walk, lent, vars)?;
-    walk_host::begin(walk, buffers);
-    Ok(said)
+    let told = walk_calls::start(walk, lent, vars);
+    if told.number == 0 {
+        walk_host::begin(walk, buffers);
+    }
+    told
 }
 
 // The numbers of a list, which stand from a place on up to another.
@@ -26,10 +29,12 @@ fn carry_out(
     line: Line,
     numbers: &[u32; 2048],
     buffers: &mut Buffers,
-    page: &mut Page,
-) {
+    page: &mut Page<'_>,
+)
+    ensures { SameSlice page.old.bytes page.new.bytes }
+{
     let mut lent = buffers.lend(walk.rooms, walk.state.vars);
-    let (op, answer): (&[u8], Result<Said, Refusal>) = match line {
+    let (op, told): (&[u8], Told) = match line {
         Line::Unreadable => return walk_show::unreadable(page),
         Line::Implied(lit) => return walk_show::implied(page, walk.state, &lent, lit),
         Line::Literals(cref) => return walk_show::literals(page, walk.state, &lent, cref),
@@ -83,7 +88,7 @@ fn carry_out(
         ),
         Line::Answers(on) => (b"answers", walk_host::answers(walk, on)),
     };
-    walk_show::answer(page, op, answer, walk.answers);
+    walk_show::answer(page, op, told, walk.answers);
 }
 
 // A line of bytes, whatever they are, is read and carried out. The page is filled from its start.
@@ -92,8 +97,10 @@ pub fn walk_line(
     text: &[u8],
     numbers: &mut [u32; 2048],
     buffers: &mut Buffers,
-    page: &mut Page,
-) {
+    page: &mut Page<'_>,
+)
+    ensures { SameSlice page.old.bytes page.new.bytes }
+{
     page.next = 0;
     let line = walk_lines::read_line(text, numbers);
     carry_out(walk, line, numbers, buffers, page);

@@ -1,11 +1,11 @@
 // The calls on the store: each is lent the parts that `op=room` and V leave of the walk's buffers.
 #![tactic(auto)]
 
-use kinds::{ClauseRef, HostSide, Refusal};
-use walk_kinds::{Lent, Said, Walk};
+use kinds::{ClauseRef, HostSide};
+use walk_kinds::{Lent, Told, Walk};
 
 // `op=start`: "starts the store with decay 0.5"
-pub fn start(walk: &mut Walk, lent: Lent<'_>, vars: usize) -> Result<Said, Refusal> {
+pub fn start(walk: &mut Walk, lent: Lent<'_>, vars: usize) -> Told {
     let Lent {
         words,
         clauses,
@@ -27,13 +27,7 @@ pub fn start(walk: &mut Walk, lent: Lent<'_>, vars: usize) -> Result<Said, Refus
 // ---- adding and choosing
 
 // `op=long`
-pub fn long(
-    walk: &mut Walk,
-    lent: Lent<'_>,
-    tier: usize,
-    glue: usize,
-    lits: &[u32],
-) -> Result<Said, Refusal> {
+pub fn long(walk: &mut Walk, lent: Lent<'_>, tier: usize, glue: usize, lits: &[u32]) -> Told {
     let Lent {
         words,
         clauses,
@@ -50,12 +44,7 @@ pub fn long(
 }
 
 // `op=tier`
-pub fn tier(
-    walk: &mut Walk,
-    lent: Lent<'_>,
-    cref: ClauseRef,
-    tier: usize,
-) -> Result<Said, Refusal> {
+pub fn tier(walk: &mut Walk, lent: Lent<'_>, cref: ClauseRef, tier: usize) -> Told {
     let Lent {
         words,
         clauses,
@@ -72,7 +61,7 @@ pub fn tier(
 }
 
 // `op=bump`
-pub fn bump(walk: &mut Walk, lent: Lent<'_>, cref: ClauseRef) -> Result<Said, Refusal> {
+pub fn bump(walk: &mut Walk, lent: Lent<'_>, cref: ClauseRef) -> Told {
     let Lent {
         words,
         clauses,
@@ -90,7 +79,7 @@ pub fn bump(walk: &mut Walk, lent: Lent<'_>, cref: ClauseRef) -> Result<Said, Re
 }
 
 // `op=decay`
-pub fn decay(walk: &mut Walk, lent: Lent<'_>) -> Result<Said, Refusal> {
+pub fn decay(walk: &mut Walk, lent: Lent<'_>) -> Told {
     let Lent {
         words,
         clauses,
@@ -105,7 +94,7 @@ pub fn decay(walk: &mut Walk, lent: Lent<'_>) -> Result<Said, Refusal> {
 }
 
 // `op=mids`
-pub fn mids(walk: &mut Walk, lent: Lent<'_>) -> Result<Said, Refusal> {
+pub fn mids(walk: &mut Walk, lent: Lent<'_>) -> Told {
     let Lent {
         words,
         clauses,
@@ -120,21 +109,21 @@ pub fn mids(walk: &mut Walk, lent: Lent<'_>) -> Result<Said, Refusal> {
 }
 
 // `op=binary`
-pub fn binary(walk: &mut Walk, lent: Lent<'_>, lits: &[u32]) -> Result<Said, Refusal> {
+pub fn binary(walk: &mut Walk, lent: Lent<'_>, lits: &[u32]) -> Told {
     let Lent { rows, counts, .. } = lent;
     let answer = binary_calls::add_binary_clause(walk.state, rows, counts, lits);
     walk_replies::plain(walk, answer)
 }
 
 // `op=empty`
-pub fn empty(walk: &mut Walk, lent: Lent<'_>) -> Result<Said, Refusal> {
+pub fn empty(walk: &mut Walk, lent: Lent<'_>) -> Told {
     let Lent { rec, .. } = lent;
     let answer = reading_calls::empty_record(walk.state, rec);
     walk_replies::plain(walk, answer)
 }
 
 // `op=assess`
-pub fn assess(walk: &Walk, lent: Lent<'_>, lits: &[u32]) -> Result<Said, Refusal> {
+pub fn assess(walk: &Walk, lent: Lent<'_>, lits: &[u32]) -> Told {
     let Lent { levels, .. } = lent;
     let answer = reading_calls::assess_learned_clause(walk.state.vars, levels, lits);
     walk_replies::assessed(answer)
@@ -143,7 +132,7 @@ pub fn assess(walk: &Walk, lent: Lent<'_>, lits: &[u32]) -> Result<Said, Refusal
 // ---- cleaning up
 
 // `op=delete`
-pub fn delete(walk: &mut Walk, lent: Lent<'_>, cref: ClauseRef) -> Result<Said, Refusal> {
+pub fn delete(walk: &mut Walk, lent: Lent<'_>, cref: ClauseRef) -> Told {
     let Lent {
         words,
         clauses,
@@ -175,7 +164,7 @@ pub fn delete(walk: &mut Walk, lent: Lent<'_>, cref: ClauseRef) -> Result<Said, 
 }
 
 // `op=locals`
-pub fn locals(walk: &mut Walk, lent: Lent<'_>) -> Result<Said, Refusal> {
+pub fn locals(walk: &mut Walk, lent: Lent<'_>) -> Told {
     let Lent {
         words,
         clauses,
@@ -207,7 +196,7 @@ pub fn locals(walk: &mut Walk, lent: Lent<'_>) -> Result<Said, Refusal> {
 }
 
 // `op=collect`
-pub fn collect(walk: &mut Walk, lent: Lent<'_>) -> Result<Said, Refusal> {
+pub fn collect(walk: &mut Walk, lent: Lent<'_>) -> Told {
     let Lent {
         words,
         clauses,
@@ -231,7 +220,7 @@ pub fn collect(walk: &mut Walk, lent: Lent<'_>) -> Result<Said, Refusal> {
 }
 
 // `op=units`
-pub fn units(walk: &mut Walk, lent: Lent<'_>) -> Result<Said, Refusal> {
+pub fn units(walk: &mut Walk, lent: Lent<'_>) -> Told {
     let Lent {
         words,
         clauses,
@@ -252,7 +241,7 @@ pub fn units(walk: &mut Walk, lent: Lent<'_>) -> Result<Said, Refusal> {
 }
 
 // `op=simplify`
-pub fn simplify(walk: &mut Walk, lent: Lent<'_>) -> Result<Said, Refusal> {
+pub fn simplify(walk: &mut Walk, lent: Lent<'_>) -> Told {
     let Lent {
         words,
         clauses,

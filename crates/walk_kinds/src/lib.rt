@@ -1,9 +1,11 @@
-// What the walk keeps between lines, and what an accepted line says.
+// What the walk keeps between lines, and what a line gives.
 #![tactic(auto)]
 
-ghost use Rattle.std.specs.Prelude.{◌≤◌};
+ghost use Rattle.std.specs.Prelude.{◌≡◌, ◌≤◌};
+ghost use Rattle.kinds.specs.Numbers.{refusal_number};
+ghost use Rattle.walk_kinds.specs.declared.Said.TheVariants.{Nothing};
 
-use kinds::{State, Tier};
+use kinds::{Refusal, State, Tier};
 
 // The lengths lent, as `op=room` names them.
 #[derive(Clone, Copy)]
@@ -38,6 +40,33 @@ pub enum Said {
     Rebuild(bool),
     New(bool),
     Assessed(Tier, u32),
+}
+
+// What a line gives: the table's number, 0 where it is accepted, and what it says besides. It is no Result, in which a wrong number and a wrong reference would be one mistake (docs/DESIGN-PASS.md, 1).
+#[derive(Clone, Copy)]
+pub struct Told {
+    pub number: usize,
+    pub said: Said,
+}
+
+// A refused line says nothing besides its number.
+impl From<Refusal> for Told {
+    ghost from_gives = { λ r t. (t.number ≡ refusal_number r) × (t.said ≡ Nothing) };
+
+    fn from(refusal: Refusal) -> Told {
+        Told {
+            number: u32::from(refusal) as usize,
+            said: Said::Nothing,
+        }
+    }
+}
+
+impl From<Said> for Told {
+    ghost from_gives = { λ s t. (t.number ≡ 0) × (t.said ≡ s) };
+
+    fn from(said: Said) -> Told {
+        Told { number: 0, said }
+    }
 }
 
 // The buffers: the store's, then the host's assignment bytes, reason kinds and values, levels and trail.

@@ -1,7 +1,5 @@
 -- What a line says, as the calls' definitions have it.
-use Rattle.std.specs.Prelude.{Result, Ok, Err}
 use Rattle.kinds.specs.Numbers.{tier_number}
-use Rattle.kinds.specs.declared.Refusal.{Refusal}
 use Rattle.calls.specs.Outcome.{Answer, nothing, reference, rebuild, proved, assessed}
 use Rattle.walk_kinds.specs.declared.Said.{Said}
 use Rattle.walk_kinds.specs.declared.Said.TheVariants.{Nothing, Ref, Rebuild, New, Assessed}
@@ -12,8 +10,3 @@ said_answer (Ref o) = reference o
 said_answer (Rebuild b) = rebuild b
 said_answer (New b) = proved b
 said_answer (Assessed t g) = assessed (tier_number t) g
-
--- a refused line says nothing besides its number
-abbrev pub said_of : Result Said Refusal → Answer
-said_of (Ok s) = said_answer s
-said_of (Err r) = nothing

@@ -42,6 +42,16 @@ fn begin() -> Walk {
     }
 }
 
+// A page on which nothing stands yet.
+fn blank(bytes: &mut [u8; 1048576]) -> Page<'_> {
+    Page { bytes, next: 0 }
+}
+
+fn write_page(rt: &impl Print, page: &Page<'_>) -> io::Result<()> {
+    let filled = page.next.min(page.bytes.len());
+    rt.write_all(&page.bytes[..filled])
+}
+
 // Every line of a text, with what it prints on standard output. Nothing follows the last line feed.
 fn walk_through(rt: &impl Print, text: &[u8]) -> io::Result<()> {
     let mut walk = begin();
@@ -62,14 +72,12 @@ fn walk_through(rt: &impl Print, text: &[u8]) -> io::Result<()> {
         trail: [0; 1024],
     };
     let mut numbers = [0; 2048];
-    let mut page = Page {
-        bytes: [0; 1048576],
-        next: 0,
-    };
+    let mut bytes = [0; 1048576];
+    let mut page = blank(&mut bytes);
     for line in text.split_inclusive(|b| *b == b'\n') {
         let line = line.strip_suffix(b"\n").unwrap_or(line);
         walk::walk_line(&mut walk, line, &mut numbers, &mut buffers, &mut page);
-        rt.write_all(&page.bytes[..page.next.min(1048576)])?;
+        write_page(rt, &page)?;
     }
     Ok(())
 }

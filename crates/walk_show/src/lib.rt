@@ -2,70 +2,95 @@
 #![tactic(auto)]
 
 ghost use Rattle.std.specs.Prelude.{◌<◌, ◌≤◌, length};
+ghost use Rattle.walk_text.specs.Page.{SameSlice};
 
 use kinds::{ClauseActivity, ClauseRef, Lit, Refusal, State, Tier};
 use view::HeaderFields;
-use walk_kinds::{Lent, Said, Walk};
+use walk_kinds::{Lent, Said, Told, Walk};
 use walk_text::{Number, Page};
 
 // ---- pieces of lines
 
-fn name(page: &mut Page, op: &[u8]) {
+fn name(page: &mut Page<'_>, op: &[u8])
+    ensures { SameSlice page.old.bytes page.new.bytes }
+{
     page.text(b"op=");
     page.text(op);
 }
 
-fn field(page: &mut Page, label: &[u8], n: usize) {
+fn field(page: &mut Page<'_>, label: &[u8], n: usize)
+    ensures { SameSlice page.old.bytes page.new.bytes }
+{
     page.text(label);
     page.number(n);
 }
 
-fn field_line(page: &mut Page, label: &[u8], n: usize) {
+fn field_line(page: &mut Page<'_>, label: &[u8], n: usize)
+    ensures { SameSlice page.old.bytes page.new.bytes }
+{
     field(page, label, n);
     page.text(b"\n");
 }
 
-fn list_line<T: Number>(page: &mut Page, label: &[u8], list: &[T]) {
+// Inlined, so that the label's length is known where it is laid: most of a long record's lines are little else.
+#[inline(always)]
+fn list_line<T: Number>(page: &mut Page<'_>, label: &[u8], list: &[T])
+    ensures { SameSlice page.old.bytes page.new.bytes }
+{
     page.text(label);
     page.list(list);
     page.text(b"\n");
 }
 
 // "A used length above its room prints the list cut at its room."
-fn used_line<T: Number>(page: &mut Page, label: &[u8], list: &[T], used: usize) {
+fn used_line<T: Number>(page: &mut Page<'_>, label: &[u8], list: &[T], used: usize)
+    ensures { SameSlice page.old.bytes page.new.bytes }
+{
     list_line(page, label, &list[..used.min(list.len())]);
 }
 
 // ---- the answer of a line
 
 // `op=NAME answer=NUMBER`
-fn numbered(page: &mut Page, op: &[u8], number: usize) {
+fn numbered(page: &mut Page<'_>, op: &[u8], number: usize)
+    ensures { SameSlice page.old.bytes page.new.bytes }
+{
     name(page, op);
     field_line(page, b" answer=", number);
 }
 
-fn refused(page: &mut Page, op: &[u8], refusal: Refusal) {
+fn refused(page: &mut Page<'_>, op: &[u8], refusal: Refusal)
+    ensures { SameSlice page.old.bytes page.new.bytes }
+{
     numbered(page, op, u32::from(refusal) as usize);
 }
 
-pub fn unreadable(page: &mut Page) {
+pub fn unreadable(page: &mut Page<'_>)
+    ensures { SameSlice page.old.bytes page.new.bytes }
+{
     numbered(page, b"none", 99);
 }
 
-fn accepted_with(page: &mut Page, op: &[u8], label: &[u8], n: usize) {
+fn accepted_with(page: &mut Page<'_>, op: &[u8], label: &[u8], n: usize)
+    ensures { SameSlice page.old.bytes page.new.bytes }
+{
     name(page, op);
     page.text(b" answer=0");
     field_line(page, label, n);
 }
 
-fn assessed(page: &mut Page, op: &[u8], tier: Tier, glue: u32) {
+fn assessed(page: &mut Page<'_>, op: &[u8], tier: Tier, glue: u32)
+    ensures { SameSlice page.old.bytes page.new.bytes }
+{
     name(page, op);
     field(page, b" tier=", tier.number() as usize);
     field_line(page, b" glue=", glue as usize);
 }
 
 // What an accepted line says: `op=long answer=0 ref=R`, `op=delete answer=0 rebuild=B`, `op=units answer=0 new=B`, `op=assess tier=T glue=G`, or `op=NAME answer=0`.
-fn accepted(page: &mut Page, op: &[u8], said: Said) {
+fn accepted(page: &mut Page<'_>, op: &[u8], said: Said)
+    ensures { SameSlice page.old.bytes page.new.bytes }
+{
     match said {
         Said::Nothing => numbered(page, op, 0),
         Said::Ref(offset) => accepted_with(page, op, b" ref=", offset as usize),
@@ -77,24 +102,32 @@ fn accepted(page: &mut Page, op: &[u8], said: Said) {
 
 // "A refused line prints `op=NAME answer=NUMBER`"; "an accepted line that prints nothing prints `op=NAME answer=0` and, where listed, its answer" while answers are on; an assessed clause always
 // prints.
-pub fn answer(page: &mut Page, op: &[u8], answer: Result<Said, Refusal>, answers: bool) {
-    match answer {
-        Err(refusal) => refused(page, op, refusal),
-        Ok(Said::Assessed(tier, glue)) => assessed(page, op, tier, glue),
-        Ok(said) if answers => accepted(page, op, said),
-        Ok(_) => {}
+pub fn answer(page: &mut Page<'_>, op: &[u8], told: Told, answers: bool)
+    ensures { SameSlice page.old.bytes page.new.bytes }
+{
+    if told.number != 0 {
+        return numbered(page, op, told.number);
+    }
+    match told.said {
+        Said::Assessed(tier, glue) => assessed(page, op, tier, glue),
+        said if answers => accepted(page, op, said),
+        _ => {}
     }
 }
 
 // ---- the literals of a clause, or of the binary clauses with a literal
 
 // `op=NAME lits=..`
-fn listed(page: &mut Page, op: &[u8], lits: &[u32]) {
+fn listed(page: &mut Page<'_>, op: &[u8], lits: &[u32])
+    ensures { SameSlice page.old.bytes page.new.bytes }
+{
     name(page, op);
     list_line(page, b" lits=", lits);
 }
 
-pub fn implied(page: &mut Page, state: State, lent: &Lent<'_>, lit: Lit) {
+pub fn implied(page: &mut Page<'_>, state: State, lent: &Lent<'_>, lit: Lit)
+    ensures { SameSlice page.old.bytes page.new.bytes }
+{
     match binary_calls::implied_number(state, lent.rows, lent.counts, lit) {
         Err(refusal) => refused(page, b"implied", refusal),
         Ok(()) => {
@@ -104,7 +137,9 @@ pub fn implied(page: &mut Page, state: State, lent: &Lent<'_>, lit: Lit) {
     }
 }
 
-pub fn literals(page: &mut Page, state: State, lent: &Lent<'_>, cref: ClauseRef) {
+pub fn literals(page: &mut Page<'_>, state: State, lent: &Lent<'_>, cref: ClauseRef)
+    ensures { SameSlice page.old.bytes page.new.bytes }
+{
     match reading_calls::clause_lits_number(state, lent.words, lent.clauses, cref) {
         Err(refusal) => refused(page, b"literals", refusal),
         Ok(()) => {
@@ -116,7 +151,9 @@ pub fn literals(page: &mut Page, state: State, lent: &Lent<'_>, cref: ClauseRef)
 
 // ---- show
 
-fn counts_fields(page: &mut Page, counts: [usize; 4]) {
+fn counts_fields(page: &mut Page<'_>, counts: [usize; 4])
+    ensures { SameSlice page.old.bytes page.new.bytes }
+{
     field(page, b" count0=", counts[0]);
     field(page, b" count1=", counts[1]);
     field(page, b" count2=", counts[2]);
@@ -133,7 +170,9 @@ fn live(counts: [usize; 4]) -> usize {
 }
 
 // `used`, `garbage` and `record` count words, the rest clauses.
-fn summary(page: &mut Page, state: State) {
+fn summary(page: &mut Page<'_>, state: State)
+    ensures { SameSlice page.old.bytes page.new.bytes }
+{
     field(page, b"used=", state.words);
     field(page, b" garbage=", state.garbage);
     field(page, b" live=", live(state.counts));
@@ -154,14 +193,18 @@ fn line_end(rec: &[u32], i: usize) -> usize
     i + 2 + (rec[i + 1] as usize).min(left - 2)
 }
 
-fn record_line(page: &mut Page, line: &[u32]) {
+fn record_line(page: &mut Page<'_>, line: &[u32])
+    ensures { SameSlice page.old.bytes page.new.bytes }
+{
     if let Some(kind) = line.first() {
         field(page, b"kind=", *kind as usize);
         list_line(page, b" lits=", &line[line.len().min(2)..]);
     }
 }
 
-fn record_lines(page: &mut Page, rec: &[u32]) {
+fn record_lines(page: &mut Page<'_>, rec: &[u32])
+    ensures { SameSlice page.old.bytes page.new.bytes }
+{
     let mut i = 0;
     // no `for`: each line has a length of its own
     while i < rec.len() {
@@ -172,7 +215,9 @@ fn record_lines(page: &mut Page, rec: &[u32]) {
 }
 
 // "`show` prints one summary line and the record."
-pub fn show(page: &mut Page, state: State, rec: &[u32]) {
+pub fn show(page: &mut Page<'_>, state: State, rec: &[u32])
+    ensures { SameSlice page.old.bytes page.new.bytes }
+{
     summary(page, state);
     record_lines(page, &rec[..state.recorded.min(rec.len())]);
 }
@@ -185,12 +230,16 @@ fn float_bits(x: f32) -> usize {
     bits as usize
 }
 
-fn activity_fields(page: &mut Page, activity: ClauseActivity) {
+fn activity_fields(page: &mut Page<'_>, activity: ClauseActivity)
+    ensures { SameSlice page.old.bytes page.new.bytes }
+{
     field(page, b" bump=", float_bits(activity.bump));
     field_line(page, b" inverse=", float_bits(activity.inv_decay));
 }
 
-fn used_fields(page: &mut Page, state: State) {
+fn used_fields(page: &mut Page<'_>, state: State)
+    ensures { SameSlice page.old.bytes page.new.bytes }
+{
     let [irred, core, mid, local] = state.tiers;
     field(page, b"state vars=", state.vars);
     field(page, b" words=", state.words);
@@ -202,7 +251,9 @@ fn used_fields(page: &mut Page, state: State) {
     field(page, b" record=", state.recorded);
 }
 
-fn state_line(page: &mut Page, state: State) {
+fn state_line(page: &mut Page<'_>, state: State)
+    ensures { SameSlice page.old.bytes page.new.bytes }
+{
     used_fields(page, state);
     counts_fields(page, state.counts);
     field(page, b" garbage=", state.garbage);
@@ -210,7 +261,9 @@ fn state_line(page: &mut Page, state: State) {
     activity_fields(page, state.activity);
 }
 
-fn clause_lines(page: &mut Page, state: State, lent: &Lent<'_>) {
+fn clause_lines(page: &mut Page<'_>, state: State, lent: &Lent<'_>)
+    ensures { SameSlice page.old.bytes page.new.bytes }
+{
     let [irred, core, mid, local] = state.tiers;
     used_line(page, b"words=", lent.words, state.words);
     used_line(page, b"clauses=", lent.clauses, state.clauses);
@@ -226,14 +279,18 @@ fn row_room(vars: usize, len: usize) -> usize {
 }
 
 // A row with a count above 0.
-fn row_line(page: &mut Page, code: usize, count: usize, row: &[u32]) {
+fn row_line(page: &mut Page<'_>, code: usize, count: usize, row: &[u32])
+    ensures { SameSlice page.old.bytes page.new.bytes }
+{
     if count > 0 {
         field(page, b"row=", code);
         used_line(page, b" lits=", row, count);
     }
 }
 
-fn row_lines(page: &mut Page, vars: usize, rows: &[u32], counts: &[u32]) {
+fn row_lines(page: &mut Page<'_>, vars: usize, rows: &[u32], counts: &[u32])
+    ensures { SameSlice page.old.bytes page.new.bytes }
+{
     if vars == 0 {
         return;
     }
@@ -248,7 +305,9 @@ fn row_lines(page: &mut Page, vars: usize, rows: &[u32], counts: &[u32]) {
     }
 }
 
-fn host_lines(page: &mut Page, walk: &Walk, lent: &Lent<'_>) {
+fn host_lines(page: &mut Page<'_>, walk: &Walk, lent: &Lent<'_>)
+    ensures { SameSlice page.old.bytes page.new.bytes }
+{
     let vars = walk.state.vars;
     used_line(page, b"values=", lent.values, vars);
     used_line(page, b"kinds=", lent.kinds, vars);
@@ -259,7 +318,9 @@ fn host_lines(page: &mut Page, walk: &Walk, lent: &Lent<'_>) {
 }
 
 // All of the store and the host side.
-pub fn dump(page: &mut Page, walk: &Walk, lent: &Lent<'_>) {
+pub fn dump(page: &mut Page<'_>, walk: &Walk, lent: &Lent<'_>)
+    ensures { SameSlice page.old.bytes page.new.bytes }
+{
     let state = walk.state;
     state_line(page, state);
     clause_lines(page, state, lent);
@@ -305,7 +366,9 @@ fn rows_behind(vars: usize, rows: &[u32], counts: &[u32]) -> usize {
 }
 
 // What lies behind the used parts.
-pub fn tails(page: &mut Page, walk: &Walk, lent: &Lent<'_>) {
+pub fn tails(page: &mut Page<'_>, walk: &Walk, lent: &Lent<'_>)
+    ensures { SameSlice page.old.bytes page.new.bytes }
+{
     let state = walk.state;
     let [irred, core, mid, local] = state.tiers;
     field(page, b"op=tails words=", behind(lent.words, state.words));
@@ -334,7 +397,9 @@ fn word_bits(bits: u32) -> usize {
     }
 }
 
-fn header_fields(page: &mut Page, header: HeaderFields) {
+fn header_fields(page: &mut Page<'_>, header: HeaderFields)
+    ensures { SameSlice page.old.bytes page.new.bytes }
+{
     field(page, b"op=view activity=", word_bits(header.activity));
     field(page, b" tier=", header.tier.number() as usize);
     field(page, b" deleted=", usize::from(header.deleted));
@@ -345,7 +410,9 @@ fn header_fields(page: &mut Page, header: HeaderFields) {
 }
 
 // "the literals of places 0, 1, .. that have one"
-fn view_literals(page: &mut Page, words: &[u32]) {
+fn view_literals(page: &mut Page<'_>, words: &[u32])
+    ensures { SameSlice page.old.bytes page.new.bytes }
+{
     for place in 0..words.len() {
         let Some(lit) = view::view_literal(words, place) else {
             return;
@@ -358,7 +425,9 @@ fn view_literals(page: &mut Page, words: &[u32]) {
 }
 
 // A clause view over words `from` to `end` of the lent word buffer: "A at most B, B at most its length, else answer 4".
-pub fn view(page: &mut Page, words: &[u32], from: usize, end: usize) {
+pub fn view(page: &mut Page<'_>, words: &[u32], from: usize, end: usize)
+    ensures { SameSlice page.old.bytes page.new.bytes }
+{
     if from > end || end > words.len() {
         return refused(page, b"view", Refusal::Clause);
     }

@@ -8,8 +8,7 @@ use native.Mathlib.Numerals.{add-one}
 use native.Mathlib.Nat.{min-eq_right}
 use lib.ListN.{length, get_or, set, drop, length-set, length-append, drop_of_length-le}
 use lib.Seq.{sets, set_out, length-sets, drop-cons}
-use Rattle.walk_text.specs.declared.Page.{Page}
-use Rattle.walk_text.specs.Page.{page, written}
+use Rattle.walk_text.specs.Page.{Page, page, written}
 
 -- nothing is written past the end
 sets_past : (vs l : List ℕ) (i : ℕ) → length l ≤ i → sets l i vs ≡ l

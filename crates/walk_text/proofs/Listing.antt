@@ -4,8 +4,7 @@ use mathlib.Core.List.{List, [], ◌∷◌}
 use Prim.Native.Nat.{ℕ, ◌+◌, ◌≤◌, min}
 use native.Mathlib.Omega.{arith}
 use lib.ListN.{length}
-use Rattle.walk_text.specs.declared.Page.{Page}
-use Rattle.walk_text.specs.Page.{page, written}
+use Rattle.walk_text.specs.Page.{Page, page, written}
 use Rattle.walk_text.specs.Numbers.{decimal, further, commas}
 use Rattle.walk_text.proofs.Laying.{behind}
 

@@ -2,13 +2,13 @@
 #![tactic(auto)]
 
 ghost use Rattle.std.specs.Prelude.{◌≡◌, ℕ, List, ◌∷◌, ◌++◌, ◌+◌, ◌%◌, ◌<◌, map, length, drop};
-ghost use Rattle.walk_text.specs.Page.{page, written};
+ghost use Rattle.walk_text.specs.Page.{SameSlice, page, written};
 ghost use Rattle.walk_text.specs.Numbers.{decimal, commas};
 
-// A page, and the place where the next text goes.
+// A lent page, and the place where the next text goes.
 #[derive(Drop)]
-pub struct Page {
-    pub bytes: [u8; 1048576],
+pub struct Page<'a> {
+    pub bytes: &'a mut [u8],
     pub next: usize,
 }
 
@@ -36,28 +36,31 @@ impl Number for u32 {
     }
 }
 
-impl Page {
+impl Page<'_> {
     // A text, cut at the page's end.
     pub fn text(&mut self, text: &[u8])
-        ensures { self.new ≡ written text.now self.old }
+        ensures slice { SameSlice self.old.bytes self.new.bytes }
+        ensures laid { page self.new.bytes.now self.new.next ≡ written text.now (page self.old.bytes.now self.old.next) }
     {
-        self.next = put_text(&mut self.bytes, self.next, text);
+        self.next = put_text(self.bytes, self.next, text);
     }
 
     pub fn number(&mut self, n: usize)
-        ensures { self.new ≡ written (decimal n) self.old }
+        ensures slice { SameSlice self.old.bytes self.new.bytes }
+        ensures laid { page self.new.bytes.now self.new.next ≡ written (decimal n) (page self.old.bytes.now self.old.next) }
     {
-        self.next = put_number(&mut self.bytes, self.next, n);
+        self.next = put_number(self.bytes, self.next, n);
     }
 
     pub fn list<T: Number>(&mut self, list: &[T])
-        ensures { self.new ≡ written (commas (map T.value list.now)) self.old }
+        ensures slice { SameSlice self.old.bytes self.new.bytes }
+        ensures laid { page self.new.bytes.now self.new.next ≡ written (commas (map T.value list.now)) (page self.old.bytes.now self.old.next) }
     {
-        self.next = put_list(&mut self.bytes, self.next, list);
+        self.next = put_list(self.bytes, self.next, list);
     }
 }
 
-// A text from a place on, cut at the end. Returns the place behind it. Byte by byte, with the end looked for at each: a copy of a counted length becomes a call, which costs more than most texts, short as they are.
+// A text from a place on, cut at the end. Returns the place behind it. Byte by byte, and on past a full page: a loop that ended there would be compiled to a copy of a counted length, a call, which costs more than most texts, short as they are.
 pub fn put_text(out: &mut [u8], at: usize, text: &[u8]) -> usize
     ensures { page out.new result ≡ written text.now (page out.old at) }
 {
@@ -67,7 +70,7 @@ pub fn put_text(out: &mut [u8], at: usize, text: &[u8]) -> usize
     let mut to = at;
     for byte in text {
         if to >= out.len() {
-            return to;
+            continue;
         }
         out[to] = *byte;
         to += 1;

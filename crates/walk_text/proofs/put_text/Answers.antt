@@ -14,8 +14,10 @@ returns-then-at-out c =
 pub loop-byte-init : goal.loop-byte-init
 loop-byte-init c = (search rules, refl)
 
-pub returns-then-to-out : goal.returns-then-to-out
-returns-then-to-out c = let l = c.loop-byte in sym (full l.out _ l.to (omega arith) l.invariant.0) ∙ l.invariant.1
+pub loop-byte-preserved-then-to-out : goal.loop-byte-preserved-then-to-out
+loop-byte-preserved-then-to-out c =
+    let l = c.loop-byte in
+    (l.invariant.0, full l.out _ l.to (omega arith) l.invariant.0 ∙ sym (full l.out _ l.to (omega arith) l.invariant.0) ∙ l.invariant.1)
 
 pub loop-byte-preserved : goal.loop-byte-preserved
 loop-byte-preserved c =
